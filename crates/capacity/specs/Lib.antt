@@ -1,0 +1,5 @@
+pub mod Meaning
+pub mod Spare
+pub mod Calls
+pub mod Slack
+pub mod Shortage
