@@ -1,2 +1,3 @@
 pub mod Naturals
 pub mod Least
+pub mod Keeps

@@ -2,13 +2,14 @@
 -- meant before.
 use Prim.Native.Nat.{ℕ, _+_, _-_}
 use lib.Dec.{leb, ltb, eqb}
-use lib.IntN.{ℤ}
+use lib.IntN.{ℤ, pos}
 use lib.ListN.{length}
+use lib.Signed.{leZ}
 use mathlib.Core.Bool.{Bool, true, false, cond, not, _&&_, _||_}
 use mathlib.Core.List.{List, [], _∷_}
 use Rattle.std.specs.declared.option.Option.{Option}
 use Rattle.std.specs.declared.option.Option.the-variants.{Some, None}
-use Rattle.terms.specs.Answers.{Said, value, refuse, after}
+use Rattle.terms.specs.Answers.{Said, value, refuse, after, mapped}
 use Rattle.terms.specs.Limits.{longest-horizon, most-boundaries}
 use Rattle.capacity.specs.declared.boundary.Boundary.{Boundary}
 use Rattle.capacity.specs.Meaning.{Meaning}
@@ -119,3 +120,11 @@ spare-says m i = refuse 4 (not (leb 1 i && leb i (length (m .boundaries)))) (val
 -- headroom(d): refused 4 unless d is to come.
 abbrev pub headroom-says : Meaning → ℕ → Said ℕ
 headroom-says m d = refuse 4 (not (to-come m d)) (value (headroom m d))
+
+-- Whether c more can be due at d: the headroom takes it.
+abbrev pub fits-says : Meaning → ℕ → ℕ → Said Bool
+fits-says m d c = mapped (leb c) (headroom-says m d)
+
+-- Whether the slot at the clock can be spared: the first interval has one.
+abbrev pub spares-slot-says : Meaning → Said Bool
+spares-slot-says m = mapped (leZ (pos 1)) (spare-says m 1)

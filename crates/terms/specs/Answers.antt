@@ -48,3 +48,9 @@ abbrev pub after : {X S : Type 0} → Said X → S → S → S
 after (value x) new old = new
 after nothing new old = old
 after (refused n) new old = old
+
+-- The same answer with its value turned into another; a refusal stays.
+abbrev pub mapped : {X Y : Type 0} → (X → Y) → Said X → Said Y
+mapped f (value x) = value (f x)
+mapped f nothing = nothing
+mapped f (refused n) = refused n

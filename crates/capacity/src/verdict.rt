@@ -1,0 +1,28 @@
+// What a book's spare capacity decides. Both calls stand for every book, and say what they mean in terms of slack.
+ghost use mathlib.Core.Path.{_≡_};
+ghost use Rattle.terms.specs.Answers.{said};
+ghost use Rattle.capacity.specs.Calls.{fits-says, spares-slot-says};
+ghost use Rattle.capacity.specs.Slack.{Headroom-is-least-slack, Spare-means-slack};
+use crate::Book;
+use terms::Refusal;
+
+// Whether so much more can be due at a deadline. Refused 4 unless clock < deadline ≤ horizon.
+// Where no slack is negative, that is so exactly when it fits between the clock and every slot from the deadline on, beside what is
+// due by then.
+pub fn fits<B: Book>(book: &mut B, deadline: u32, demand: u32) -> Result<bool, Refusal>
+    ensures answer { λ r. ⌜ said r ≡ fits-says (B·Book .meaning (now (book .entry))) deadline demand ⌝ }
+    ensures same { λ _. ⌜ B·Book .meaning (now (book .exit)) ≡ B·Book .meaning (now (book .entry)) ⌝ }
+    ensures exact { λ _. ⌜ Headroom-is-least-slack (B·Book .meaning (now (book .entry))) deadline demand ⌝ }
+{
+    Ok(demand <= book.headroom(deadline)?)
+}
+
+// Whether the slot at the clock can be spared for work that nothing guarantees. Refused 4 at the horizon.
+// Where no slack is negative, that is so exactly when every slack is at least 1.
+pub fn spares_slot<B: Book>(book: &mut B) -> Result<bool, Refusal>
+    ensures answer { λ r. ⌜ said r ≡ spares-slot-says (B·Book .meaning (now (book .entry))) ⌝ }
+    ensures same { λ _. ⌜ B·Book .meaning (now (book .exit)) ≡ B·Book .meaning (now (book .entry)) ⌝ }
+    ensures exact { λ _. ⌜ Spare-means-slack (B·Book .meaning (now (book .entry))) ⌝ }
+{
+    Ok(book.spare(1)? >= 1)
+}
