@@ -1,3 +1,4 @@
 pub mod Naturals
 pub mod Least
 pub mod Keeps
+pub mod Slots

@@ -1,3 +1,5 @@
 mod Standing
 mod Suffixes
 mod Turns
+mod Writes
+mod Passing

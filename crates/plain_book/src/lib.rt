@@ -4,4 +4,5 @@ mod places;
 mod plain;
 mod sums;
 
+pub use lines::PlainLines;
 pub use plain::PlainBook;
