@@ -2,3 +2,4 @@ pub mod Naturals
 pub mod Least
 pub mod Keeps
 pub mod Slots
+pub mod Intervals

@@ -14,7 +14,8 @@ use Rattle.capacity.specs.Calls.{is-boundary, due-at, with-due, with-boundary}
 use Rattle.capacity.specs.Slack.{rises}
 use Rattle.capacity.proofs.Keeps.{boundary-later}
 use Rattle.capacity.proofs.Naturals.{rises-first, rises-rest}
-use Rattle.plain_book.specs.Plain.{boundary-at, start-at, Stands, Lacks}
+use Rattle.capacity.specs.Intervals.{boundary-at}
+use Rattle.plain_book.specs.Plain.{Stands, Lacks}
 
 -- every boundary at a place before i ends before d
 abbrev pub Before : List Boundary → ℕ → ℕ → Type 0

@@ -12,7 +12,7 @@ use Rattle.capacity.specs.Slack.{rises}
 use Rattle.capacity.specs.Spare.{spares}
 use Rattle.capacity.proofs.Least.{rises-le}
 use Rattle.capacity.proofs.Naturals.{room, rises-first, rises-rest, spare-is}
-use Rattle.plain_book.specs.Plain.{boundary-at, start-at}
+use Rattle.capacity.specs.Intervals.{boundary-at, start-at}
 
 -- what the intervals from place k on lack, and what they can spare before d
 abbrev pub short-from : ℕ → List Boundary → ℕ → ℕ

@@ -11,7 +11,7 @@ use Rattle.capacity.specs.Meaning.{Meaning}
 use Rattle.capacity.specs.Spare.{spare}
 use Rattle.plain_book.specs.declared.plain.PlainBook.{PlainBook}
 use Rattle.plain_book.specs.declared.sums.Interval.{Interval}
-use Rattle.plain_book.specs.Plain.{boundary-at, start-at}
+use Rattle.capacity.specs.Intervals.{boundary-at, start-at}
 use Rattle.plain_book.proofs.Suffixes.{Placed, placed, short-from}
 
 pub turn :

@@ -18,7 +18,8 @@ use Rattle.capacity.specs.Spare.{headroom}
 use Rattle.capacity.proofs.Keeps.{boundary-later, rises-with-due, rises-with-boundary, short-with-less, short-with-more, short-with-boundary}
 use Rattle.capacity.proofs.Naturals.{headroom-is-room}
 use Rattle.plain_book.specs.declared.plain.PlainBook.{PlainBook}
-use Rattle.plain_book.specs.Plain.{plain-meaning, boundary-at, Stands, Lacks}
+use Rattle.capacity.specs.Intervals.{boundary-at}
+use Rattle.plain_book.specs.Plain.{plain-meaning, Stands, Lacks}
 use Rattle.plain_book.proofs.Suffixes.{placed-at, room-from-le}
 
 -- what the ghost fields ask of new boundaries

@@ -1,14 +1,15 @@
 -- What a plain book means, and the places of its boundaries.
-use Prim.Native.Nat.{ℕ, zero, suc, _≤_, _<_}
-use lib.ListN.{length, getD, set}
+use Prim.Native.Nat.{ℕ, _≤_, _<_}
+use lib.ListN.{length, set}
 use mathlib.Core.Bool.{true, false}
-use mathlib.Core.List.{List, [], _∷_}
+use mathlib.Core.List.{List}
 use mathlib.Core.Path.{_≡_}
 use Rattle.std.specs.Holes.{inserted}
 use Rattle.std.specs.Of.Vec.{vec-items}
 use Rattle.std.specs.declared.result.Result.{Result}
 use Rattle.std.specs.declared.result.Result.the-variants.{Ok, Err}
 use Rattle.capacity.specs.Calls.{is-boundary, due-at, with-due, with-boundary}
+use Rattle.capacity.specs.Intervals.{boundary-at}
 use Rattle.capacity.specs.Meaning.{Meaning}
 use Rattle.capacity.specs.declared.boundary.Boundary.{Boundary}
 use Rattle.plain_book.specs.declared.plain.PlainBook.{PlainBook}
@@ -16,16 +17,6 @@ use Rattle.plain_book.specs.declared.plain.PlainBook.{PlainBook}
 -- Just what it keeps.
 abbrev pub plain-meaning : PlainBook → Meaning
 plain-meaning p = record { clock = p .clock; horizon = p .horizon; boundaries = vec-items (p .boundaries) }
-
--- Where the interval at place k begins: at s, or where the one before it ends.
-abbrev pub start-at : ℕ → List Boundary → ℕ → ℕ
-start-at s bs zero = s
-start-at s [] (suc k) = s
-start-at s (b ∷ bs) (suc k) = start-at (b .end) bs k
-
--- The boundary at place i.
-abbrev pub boundary-at : List Boundary → ℕ → Boundary
-boundary-at bs i = getD bs i (record { end = 0; due = 0 })
 
 -- d is the boundary at place i.
 pub record Stands (bs : List Boundary) (d i : ℕ) : Type 0 where

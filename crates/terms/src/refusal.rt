@@ -1,6 +1,12 @@
 // Why a call says no. A refusal changes nothing, and where several apply the smallest number is answered.
+ghost use lib.Chars.{codes};
+ghost use mathlib.Core.List.{_++_};
 ghost use mathlib.Core.Path.{_≡_};
+ghost use Rattle.std.specs.Written.{decimal};
+ghost use Rattle.std.specs.declared.option.Option.the-variants.{Some};
 ghost use Rattle.terms.specs.Answers.{number-of};
+use std::error::Error;
+use std::fmt;
 
 #[derive(Clone, Copy, PartialEq, Eq, Debug)]
 pub enum Refusal {
@@ -51,3 +57,15 @@ impl Refusal {
         }
     }
 }
+
+// A refusal is written by its number, as it is known outside.
+pub impl fmt::Display for Refusal as RefusalDisplay {
+    ghost shown = { λ x. Some (codes "refused " ++ decimal (number-of x)) };
+
+    fn fmt<W: fmt::Write>(&self, f: &mut fmt::Formatter<W>) -> fmt::Result {
+        let number = self.number();
+        write!(f, "refused {number}")
+    }
+}
+
+pub impl Error for Refusal as RefusalError {}

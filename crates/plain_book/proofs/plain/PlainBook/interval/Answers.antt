@@ -5,7 +5,7 @@ use borrow.Author.Needs.{needs}
 use native.Mathlib.Omega.{arith}
 use Rattle.std.specs.Of.Vec.{vec-items}
 use Rattle.std.proofs.shelf.Lists.{getD-read}
-use Rattle.plain_book.specs.Plain.{boundary-at}
+use Rattle.capacity.specs.Intervals.{boundary-at}
 use Rattle.plain_book.proofs.Suffixes.{placed-at}
 use Rattle.plain_book.proofs.plain.PlainBook.interval.Needs as need
 
