@@ -1,1 +1,3 @@
+mod Ends
+mod Filling
 mod Held

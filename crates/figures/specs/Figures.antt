@@ -6,8 +6,8 @@ use mathlib.Core.Path.{_≡_}
 use Rattle.std.specs.declared.option.Option.the-variants.{Some, None}
 use Rattle.terms.specs.Answers.{value, refused}
 use Rattle.capacity.specs.declared.boundary.Boundary.{Boundary}
-use Rattle.capacity.specs.Calls.{cleared, owe-says, run-leaves}
-use Rattle.capacity.specs.Filled.{filled}
+use Rattle.capacity.specs.Calls.{cleared, owe-says}
+use Rattle.capacity.specs.Filled.{filled, ran}
 use Rattle.capacity.specs.Meaning.{Meaning}
 use Rattle.capacity.specs.Spare.{spares, headroom}
 
@@ -21,14 +21,14 @@ abbrev pub spares-of : Meaning → List ℤ
 spares-of m = spares (m .clock) (m .boundaries)
 
 -- The worked example: horizon 12, with 2, 1, 1 and 5 slots due at 6, 8, 10 and 12.
-abbrev pub worked : Meaning
+unfoldable pub worked : Meaning
 worked =
     filled (cleared 12)
     (record { end = 6; due = 2 } ∷ record { end = 8; due = 1 } ∷ record { end = 10; due = 1 } ∷ record { end = 12; due = 5 } ∷ [])
 
 -- The same after three slots for 12 and one for nobody.
-abbrev pub worked-later : Meaning
-worked-later = run-leaves (run-leaves (run-leaves (run-leaves worked (Some 12)) (Some 12)) (Some 12)) None
+unfoldable pub worked-later : Meaning
+worked-later = ran worked (Some 12 ∷ Some 12 ∷ Some 12 ∷ None ∷ [])
 
 abbrev pub figures : List (Type 0)
 figures =
