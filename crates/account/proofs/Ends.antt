@@ -17,7 +17,7 @@ pub day-ends :
     (entered asked ordered passed printed : Meaning) →
     entered
     ≡ filled (cleared 12)
-      (record { end = 6; due = 2 } ∷ record { end = 8; due = 1 } ∷ record { end = 10; due = 1 } ∷ record { end = 12; due = 5 } ∷ []) →
+    (record { end = 6; due = 2 } ∷ record { end = 8; due = 1 } ∷ record { end = 10; due = 1 } ∷ record { end = 12; due = 5 } ∷ []) →
     asked ≡ entered →
     ordered ≡ orders-leave asked →
     passed ≡ ran ordered (Some 12 ∷ Some 12 ∷ Some 12 ∷ None ∷ []) →

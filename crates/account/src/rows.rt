@@ -32,7 +32,10 @@ pub impl fmt::Display for Row as RowDisplay {
             due,
             spare,
         } = *self;
-        write!(f, "{interval:>8}{from:>8}{to:>8}{width:>8}{due:>8}{spare:>8}")
+        write!(
+            f,
+            "{interval:>8}{from:>8}{to:>8}{width:>8}{due:>8}{spare:>8}"
+        )
     }
 }
 
@@ -56,7 +59,12 @@ fn spare_behind<B: Book>(book: &mut B, interval: usize) -> Result<i32, Refusal>
 
 impl Row {
     // The line for an interval that runs from one slot to another.
-    pub(crate) fn of<B: Book>(book: &mut B, interval: usize, from: u32, to: u32) -> Result<Row, Refusal>
+    pub(crate) fn of<B: Book>(
+        book: &mut B,
+        interval: usize,
+        from: u32,
+        to: u32,
+    ) -> Result<Row, Refusal>
         ensures answer { λ r. ⌜ said r ≡ row-says (B·Book .meaning (now (book .entry))) interval from to ⌝ }
         ensures same { λ _. ⌜ B·Book .meaning (now (book .exit)) ≡ B·Book .meaning (now (book .entry)) ⌝ }
         ensures due { λ r. ⌜ Due-as-held (B·Book .meaning (now (book .entry))) interval from to r ⌝ }

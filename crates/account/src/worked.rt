@@ -20,6 +20,7 @@ use terms::RefusalError;
 
 // The horizon, and what is due at each deadline.
 const HORIZON: u32 = 12;
+
 const DEMANDS: [Boundary; 4] = [
     Boundary { end: 6, due: 2 },
     Boundary { end: 8, due: 1 },
@@ -32,7 +33,9 @@ const QUESTIONS: [u32; 3] = [2, 6, 12];
 
 // The demands that come later, one after the other, and the deadline of both.
 const DEADLINE: u32 = 12;
+
 const FIRST_ORDER: u32 = 3;
+
 const SECOND_ORDER: u32 = 4;
 
 // Who gets the first slots.
@@ -65,7 +68,11 @@ fn fill<B: Book>(book: &mut B, horizon: u32, demands: &[Boundary]) -> Result<(),
 }
 
 // A line for each interval of a book, whose ends are those deadlines that are later than its clock.
-fn print_intervals<B: Book>(rt: &LibcRuntime, book: &mut B, demands: &[Boundary]) -> Result<(), AnyError>
+fn print_intervals<B: Book>(
+    rt: &LibcRuntime,
+    book: &mut B,
+    demands: &[Boundary],
+) -> Result<(), AnyError>
     ensures { λ _. ⌜ B·Book .meaning (now (book .exit)) ≡ B·Book .meaning (now (book .entry)) ⌝ }
 {
     let mut from = book.clock();
@@ -109,10 +116,19 @@ fn print_orders<B: Book>(rt: &LibcRuntime, book: &mut B) -> Result<(), AnyError>
 }
 
 // The verdict on a demand that is owed beside what is due already.
-fn print_verdict<B: Book>(rt: &LibcRuntime, book: &mut B, deadline: u32, demand: u32) -> Result<(), AnyError>
+fn print_verdict<B: Book>(
+    rt: &LibcRuntime,
+    book: &mut B,
+    deadline: u32,
+    demand: u32,
+) -> Result<(), AnyError>
     ensures { λ r. ⌜ made r (λ _. B·Book .meaning (now (book .exit)) ≡ owe-leaves (B·Book .meaning (now (book .entry))) deadline demand) ⌝ }
 {
-    let fit = if fits(book, deadline, demand)? { "fits" } else { "does not fit" };
+    let fit = if fits(book, deadline, demand)? {
+        "fits"
+    } else {
+        "does not fit"
+    };
     print!(rt, "owe {demand} more at {deadline}: {fit}, ")?;
     match book.owe(deadline, demand) {
         Ok(()) => println!(rt, "accepted")?,
@@ -122,7 +138,11 @@ fn print_verdict<B: Book>(rt: &LibcRuntime, book: &mut B, deadline: u32, demand:
 }
 
 // Lets a slot pass for each owner in turn. The first refusal ends it.
-fn print_slots<B: Book>(rt: &LibcRuntime, book: &mut B, owners: &[Option<u32>]) -> Result<(), AnyError>
+fn print_slots<B: Book>(
+    rt: &LibcRuntime,
+    book: &mut B,
+    owners: &[Option<u32>],
+) -> Result<(), AnyError>
     ensures { λ r. ⌜ made r (λ _. B·Book .meaning (now (book .exit)) ≡ ran (B·Book .meaning (now (book .entry))) (now (owners .entry))) ⌝ }
 {
     println!(rt, "\nSlots")?;

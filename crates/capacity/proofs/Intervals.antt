@@ -16,7 +16,7 @@ pub spare-from-next :
     (s : ℕ) (bs : List Boundary) (k : ℕ) → k < length bs →
     getD (spares s bs) k (pos 0)
     ≡ ((pos (boundary-at bs k .end) -ℤ pos (start-at s bs k)) -ℤ pos (boundary-at bs k .due))
-      +ℤ minZ (pos 0) (getD (spares s bs) (suc k) (pos 0))
+    +ℤ minZ (pos 0) (getD (spares s bs) (suc k) (pos 0))
 spare-from-next s [] k lt = absurd (omega arith)
 spare-from-next s (b ∷ []) zero lt = refl
 spare-from-next s (b ∷ (b′ ∷ bs)) zero lt = refl

@@ -27,7 +27,7 @@ boundary-later s (b ∷ bs) h d r is =
     ⊎-elim
     (λ (same : eqb (b .end) d ≡ true). let e = eqb-true (b .end) d same in omega arith)
     (λ (other : eqb (b .end) d ≡ false).
-        let more = boundary-later (b .end) bs h d (rises-rest s b bs h r) (rw other at is) in omega arith)
+    let more = boundary-later (b .end) bs h d (rises-rest s b bs h r) (rw other at is) in omega arith)
     (cases-bool (eqb (b .end) d))
 
 -- with-due: the ends stay
@@ -39,10 +39,10 @@ rises-with-due s (b ∷ bs) h d c r =
     let rest = rises-rest s b bs h r in
     ⊎-elim
     (λ (same : eqb (b .end) d ≡ true).
-        let e = eqb-true (b .end) d same in
-        rw same (rw e at r))
+    let e = eqb-true (b .end) d same in
+    rw same (rw e at r))
     (λ (other : eqb (b .end) d ≡ false).
-        rw other (rises-cons s b (with-due bs d c) h first (rises-with-due (b .end) bs h d c rest)))
+    rw other (rises-cons s b (with-due bs d c) h first (rises-with-due (b .end) bs h d c rest)))
     (cases-bool (eqb (b .end) d))
 
 -- less due takes no more
@@ -52,12 +52,12 @@ short-with-less s [] d c le = omega arith
 short-with-less s (b ∷ bs) d c le =
     ⊎-elim
     (λ (same : eqb (b .end) d ≡ true).
-        let e = eqb-true (b .end) d same in
-        let le′ = rw same at le in
-        rw (same, ← e) (omega arith))
+    let e = eqb-true (b .end) d same in
+    let le′ = rw same at le in
+    rw (same, ← e) (omega arith))
     (λ (other : eqb (b .end) d ≡ false).
-        let more = short-with-less (b .end) bs d c (rw other at le) in
-        rw other (omega arith))
+    let more = short-with-less (b .end) bs d c (rw other at le) in
+    rw other (omega arith))
     (cases-bool (eqb (b .end) d))
 
 -- c more due takes from before the start only what the room at d cannot take
@@ -70,14 +70,14 @@ short-with-more s (b ∷ bs) h d c r is =
     let rest = rises-rest s b bs h r in
     ⊎-elim
     (λ (same : eqb (b .end) d ≡ true).
-        let e = eqb-true (b .end) d same in
-        let none = room-none (b .end) bs h (b .end) rest (omega arith) in
-        rw (same, ← e) (omega arith))
+    let e = eqb-true (b .end) d same in
+    let none = room-none (b .end) bs h (b .end) rest (omega arith) in
+    rw (same, ← e) (omega arith))
     (λ (other : eqb (b .end) d ≡ false).
-        let is′ = rw other at is in
-        let past = boundary-later (b .end) bs h d rest is′ in
-        let more = short-with-more (b .end) bs h d c rest is′ in
-        rw other (omega arith))
+    let is′ = rw other at is in
+    let past = boundary-later (b .end) bs h d rest is′ in
+    let more = short-with-more (b .end) bs h d c rest is′ in
+    rw other (omega arith))
     (cases-bool (eqb (b .end) d))
 
 -- with-boundary: a new boundary with nothing due
@@ -92,14 +92,14 @@ rises-with-boundary s (b ∷ bs) h d r new sd dh =
     let ne = eqb-false (b .end) d (parts .0) in
     ⊎-elim
     (λ (lt : d < b .end).
-        rw
-        (lt-ltb d (b .end) lt)
-        (rises-cons s (record { end = d; due = 0 }) (b ∷ bs) h sd (rises-cons d b bs h lt rest)))
+    rw
+    (lt-ltb d (b .end) lt)
+    (rises-cons s (record { end = d; due = 0 }) (b ∷ bs) h sd (rises-cons d b bs h lt rest)))
     (λ (ge : b .end ≤ d).
-        let past : b .end < d = omega (arith, ne) in
-        rw
-        (le-ltb d (b .end) ge)
-        (rises-cons s b (with-boundary bs d) h first (rises-with-boundary (b .end) bs h d rest (parts .1) past dh)))
+    let past : b .end < d = omega (arith, ne) in
+    rw
+    (le-ltb d (b .end) ge)
+    (rises-cons s b (with-boundary bs d) h first (rises-with-boundary (b .end) bs h d rest (parts .1) past dh)))
     (cases-lt d (b .end))
 
 pub short-with-boundary :
@@ -108,9 +108,9 @@ short-with-boundary s [] d le = omega arith
 short-with-boundary s (b ∷ bs) d le =
     ⊎-elim
     (λ (lt : d < b .end). rw (lt-ltb d (b .end) lt) (omega arith))
-    (λ (ge : b .end ≤ d). 
-        let more = short-with-boundary (b .end) bs d ge in
-        rw (le-ltb d (b .end) ge) (omega arith))
+    (λ (ge : b .end ≤ d).
+    let more = short-with-boundary (b .end) bs d ge in
+    rw (le-ltb d (b .end) ge) (omega arith))
     (cases-lt d (b .end))
 
 -- a slot passes
@@ -123,8 +123,8 @@ rises-later s (b ∷ bs) h r sh =
     ⊎-elim
     (λ (lt : s + 1 < b .end). rw (lt-ltb (s + 1) (b .end) lt) (rises-cons (s + 1) b bs h lt rest))
     (λ (ge : b .end ≤ s + 1).
-        let e : s + 1 ≡ b .end = omega arith in
-        rw (le-ltb (s + 1) (b .end) ge) (rw e rest))
+    let e : s + 1 ≡ b .end = omega arith in
+    rw (le-ltb (s + 1) (b .end) ge) (rw e rest))
     (cases-lt (s + 1) (b .end))
 
 -- what is due at the end of the first interval, and what the others take before it, fit before that end
@@ -138,7 +138,7 @@ short-later s (b ∷ bs) h r le =
     ⊎-elim
     (λ (lt : s + 1 < b .end). rw (lt-ltb (s + 1) (b .end) lt) (omega arith))
     (λ (ge : b .end ≤ s + 1).
-        let e : s + 1 ≡ b .end = omega arith in
-        let fits : short (b .end) bs ≤ b .end = omega arith in
-        rw (le-ltb (s + 1) (b .end) ge) (rw e fits))
+    let e : s + 1 ≡ b .end = omega arith in
+    let fits : short (b .end) bs ≤ b .end = omega arith in
+    rw (le-ltb (s + 1) (b .end) ge) (rw e fits))
     (cases-lt (s + 1) (b .end))

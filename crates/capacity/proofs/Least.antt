@@ -52,28 +52,28 @@ room-suffices s (b ∷ bs) h d c a r sd fits le u du uh =
     let rest = rises-rest s b bs h r in
     ⊎-elim
     (λ (lt : u < b .end).
-        let none = due-by-none (b .end) bs h u rest (omega arith) in
-        let no-room = room-none (b .end) bs h d rest (omega arith) in
-        rw (lt-leb (b .end) u lt) (omega arith))
+    let none = due-by-none (b .end) bs h u rest (omega arith) in
+    let no-room = room-none (b .end) bs h d rest (omega arith) in
+    rw (lt-leb (b .end) u lt) (omega arith))
     (λ (ge : b .end ≤ u).
-        rw
-        (le-leb (b .end) u ge)
-        (⊎-elim
-        (λ (past : b .end < d).
-            let more =
-                room-suffices (b .end) bs h d c (a + b .end - (s + b .due)) rest (omega arith) (omega arith) (omega arith) u
-                du uh
-            in
-            omega arith)
-        (λ (within : d ≤ b .end).
-            let no-room = room-none (b .end) bs h d rest within in
-            let no-room-here = room-none (b .end) bs h (b .end) rest (omega arith) in
-            let more =
-                room-suffices (b .end) bs h (b .end) c (a + b .end - (s + b .due)) rest (omega arith) (omega arith)
-                (omega arith) u ge uh
-            in
-            omega arith)
-        (cases-lt (b .end) d)))
+    rw
+    (le-leb (b .end) u ge)
+    (⊎-elim
+    (λ (past : b .end < d).
+    let more =
+    room-suffices (b .end) bs h d c (a + b .end - (s + b .due)) rest (omega arith) (omega arith) (omega arith) u
+    du uh
+    in
+    omega arith)
+    (λ (within : d ≤ b .end).
+    let no-room = room-none (b .end) bs h d rest within in
+    let no-room-here = room-none (b .end) bs h (b .end) rest (omega arith) in
+    let more =
+    room-suffices (b .end) bs h (b .end) c (a + b .end - (s + b .due)) rest (omega arith) (omega arith)
+    (omega arith) u ge uh
+    in
+    omega arith)
+    (cases-lt (b .end) d)))
     (cases-lt u (b .end))
 
 -- where no slack falls below a, the intervals take no more than a from before s
@@ -88,8 +88,8 @@ short-within s (b ∷ bs) h a r slack =
     let here = slack (b .end) first (rises-le (b .end) bs h rest) in
     let due = due-by-past b bs (b .end) (omega arith) in
     let more =
-        short-within (b .end) bs h (a + b .end - (s + b .due)) rest
-        (λ u lt uh. omega (arith, slack u (omega arith) uh, due-by-past b bs u (omega arith)))
+    short-within (b .end) bs h (a + b .end - (s + b .due)) rest
+    (λ u lt uh. omega (arith, slack u (omega arith) uh, due-by-past b bs u (omega arith)))
     in
     omega arith
 
@@ -105,27 +105,27 @@ room-needed s (b ∷ bs) h d c a r sd dh le slack =
     let rest = rises-rest s b bs h r in
     ⊎-elim
     (λ (past : b .end < d).
-        let more =
-            room-needed (b .end) bs h d c (a + b .end - (s + b .due)) rest past dh (omega arith)
-            (λ u du uh. omega (arith, slack u du uh, due-by-past b bs u (omega arith)))
-        in
-        omega arith)
+    let more =
+    room-needed (b .end) bs h d c (a + b .end - (s + b .due)) rest past dh (omega arith)
+    (λ u du uh. omega (arith, slack u du uh, due-by-past b bs u (omega arith)))
+    in
+    omega arith)
     (λ (within : d ≤ b .end).
-        let none = room-none (b .end) bs h d rest within in
-        let here = slack (b .end) within (rises-le (b .end) bs h rest) in
-        let due = due-by-past b bs (b .end) (omega arith) in
-        let lack =
-            short-within (b .end) bs h (a + b .end - (s + b .due + c)) rest
-            (λ u lt uh. omega (arith, slack u (omega arith) uh, due-by-past b bs u (omega arith)))
-        in
-        let at-d : c + s ≤ d + a =
-            ⊎-elim
-            (λ (lt : d < b .end).
-                omega (arith, slack d (omega arith) dh, due-by-before b bs d lt))
-            (λ (ge : b .end ≤ d). omega arith)
-            (cases-lt d (b .end))
-        in
-        omega arith)
+    let none = room-none (b .end) bs h d rest within in
+    let here = slack (b .end) within (rises-le (b .end) bs h rest) in
+    let due = due-by-past b bs (b .end) (omega arith) in
+    let lack =
+    short-within (b .end) bs h (a + b .end - (s + b .due + c)) rest
+    (λ u lt uh. omega (arith, slack u (omega arith) uh, due-by-past b bs u (omega arith)))
+    in
+    let at-d : c + s ≤ d + a =
+    ⊎-elim
+    (λ (lt : d < b .end).
+    omega (arith, slack d (omega arith) dh, due-by-before b bs d lt))
+    (λ (ge : b .end ≤ d). omega arith)
+    (cases-lt d (b .end))
+    in
+    omega arith)
     (cases-lt (b .end) d)
 
 pub headroom-is-least-slack : (m : Meaning) (d c : ℕ) → Headroom-is-least-slack m d c
@@ -135,13 +135,14 @@ headroom-is-least-slack m d c ordered met after within =
     let h = m .horizon in
     let whole = headroom-is-room t bs h d ordered (omega arith) in
     let none : short t bs ≤ 0 =
-        short-within t bs h 0 ordered (λ u lt uh. omega (arith, met u (omega arith) uh))
-    in
-    (λ fits u du uh.
-        omega (arith, room-suffices t bs h d c 0 ordered (omega arith) (omega arith) none u du uh),
-    λ slack.
-        omega
-        (arith, room-needed t bs h d c 0 ordered after within none (λ u du uh. omega (arith, slack u du uh))))
+    short-within t bs h 0 ordered (λ u lt uh. omega (arith, met u (omega arith) uh))
+    in (
+      λ fits u du uh.
+          omega (arith, room-suffices t bs h d c 0 ordered (omega arith) (omega arith) none u du uh),
+      λ slack.
+          omega
+          (arith, room-needed t bs h d c 0 ordered after within none (λ u du uh. omega (arith, slack u du uh))),
+    )
 
 -- the slot at the clock can be spared exactly when the first interval has one
 spare-means-slack-from :
@@ -152,19 +153,20 @@ spare-means-slack-from t (b ∷ bs) h ordered met before =
     let first = rises-first t b bs h ordered in
     let is = spare-is t b bs in
     let none : short t (b ∷ bs) ≤ 0 =
-        short-within t (b ∷ bs) h 0 ordered (λ u lt uh. omega (arith, met u (omega arith) uh))
+    short-within t (b ∷ bs) h 0 ordered (λ u lt uh. omega (arith, met u (omega arith) uh))
     in
-    let no-more = room-none (b .end) bs h (t + 1) (rises-rest t b bs h ordered) (omega arith) in
-    (λ spare u du uh.
-        let sum : t + b .due + short (b .end) bs + 1 ≤ b .end = omega (arith, ints) in
-        omega (arith, room-suffices t (b ∷ bs) h (t + 1) 1 0 ordered (omega arith) (omega arith) none u du uh),
-    λ slack.
-        let needed =
-            room-needed t (b ∷ bs) h (t + 1) 1 0 ordered (omega arith) (omega arith) none
-            (λ u du uh. omega (arith, slack u du uh))
-        in
-        let sum : t + b .due + short (b .end) bs + 1 ≤ b .end = omega arith in
-        omega (arith, ints))
+    let no-more = room-none (b .end) bs h (t + 1) (rises-rest t b bs h ordered) (omega arith) in (
+      λ spare u du uh.
+          let sum : t + b .due + short (b .end) bs + 1 ≤ b .end = omega (arith, ints) in
+          omega (arith, room-suffices t (b ∷ bs) h (t + 1) 1 0 ordered (omega arith) (omega arith) none u du uh),
+      λ slack.
+          let needed =
+          room-needed t (b ∷ bs) h (t + 1) 1 0 ordered (omega arith) (omega arith) none
+          (λ u du uh. omega (arith, slack u du uh))
+          in
+          let sum : t + b .due + short (b .end) bs + 1 ≤ b .end = omega arith in
+          omega (arith, ints),
+    )
 
 pub spare-means-slack : (m : Meaning) → Spare-means-slack m
 spare-means-slack m = spare-means-slack-from (m .clock) (m .boundaries) (m .horizon)

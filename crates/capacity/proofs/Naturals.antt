@@ -40,11 +40,11 @@ pub positive-min-is :
 positive-min-is z x y d s le h =
     ⊎-elim
     (λ (lt : x + s < d + y).
-        let e : minZ (pos d -ℤ pos s) z ≡ z = omega (arith, ints, clamps) in
-        ap positive-part e ∙ positive-part-is z x y h ∙ omega arith)
+    let e : minZ (pos d -ℤ pos s) z ≡ z = omega (arith, ints, clamps) in
+    ap positive-part e ∙ positive-part-is z x y h ∙ omega arith)
     (λ (ge : d + y ≤ x + s).
-        let e : minZ (pos d -ℤ pos s) z +ℤ pos s ≡ pos d = omega (arith, ints, clamps) in
-        positive-part-is (minZ (pos d -ℤ pos s) z) d s e ∙ omega arith)
+    let e : minZ (pos d -ℤ pos s) z +ℤ pos s ≡ pos d = omega (arith, ints, clamps) in
+    positive-part-is (minZ (pos d -ℤ pos s) z) d s e ∙ omega arith)
     (cases-lt (x + s) (d + y))
 
 -- headroom, uniformly: of each interval what it has free, and no more than lies before d
@@ -78,9 +78,9 @@ headroom-is-room s (b ∷ bs) h d r le =
     let all = positive-part-is (first-spare s (b ∷ bs)) (b .end) (s + b .due + short (b .end) bs) is in
     ⊎-elim
     (λ (lt : b .end < d).
-        let more = headroom-is-room (b .end) bs h d rest (omega arith) in
-        rw (lt-leb d (b .end) lt) (omega arith))
+    let more = headroom-is-room (b .end) bs h d rest (omega arith) in
+    rw (lt-leb d (b .end) lt) (omega arith))
     (λ (ge : d ≤ b .end).
-        let none = room-none (b .end) bs h d rest ge in
-        rw (le-leb d (b .end) ge) (omega arith))
+    let none = room-none (b .end) bs h d rest ge in
+    rw (le-leb d (b .end) ge) (omega arith))
     (cases-lt (b .end) d)

@@ -24,7 +24,7 @@ boundary-within s (b ∷ bs) h d r is =
     let rest = rises-rest s b bs h r in
     ⊎-elim
     (λ (same : eqb (b .end) d ≡ true).
-        let e = eqb-true (b .end) d same in omega (arith, rises-le (b .end) bs h rest))
+    let e = eqb-true (b .end) d same in omega (arith, rises-le (b .end) bs h rest))
     (λ (other : eqb (b .end) d ≡ false). boundary-within (b .end) bs h d rest (rw other at is))
     (cases-bool (eqb (b .end) d))
 

@@ -106,8 +106,10 @@ run-says m owner = refuse 6 (unowned m owner) (refuse 7 (eqb (m .clock) (m .hori
 
 abbrev pub passed : Meaning → Option ℕ → Meaning
 passed m owner =
-    record
-    { clock = m .clock + 1; horizon = m .horizon; boundaries = later-than (m .clock + 1) (served (m .boundaries) owner)
+    record {
+      clock = m .clock + 1;
+      horizon = m .horizon;
+      boundaries = later-than (m .clock + 1) (served (m .boundaries) owner);
     }
 
 abbrev pub run-leaves : Meaning → Option ℕ → Meaning

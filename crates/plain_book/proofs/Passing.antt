@@ -54,7 +54,7 @@ pass-keeps p bs before is =
     let le = rises-le (p .clock) old (p .horizon) (p .ordered) in
     let lt : p .clock < p .horizon = omega (arith, before) in
     let P : List Boundary → Type 0 =
-        λ xs. (rises (p .clock + 1) xs (p .horizon) ≡ true) × (short (p .clock + 1) xs ≤ p .clock + 1)
+    λ xs. (rises (p .clock + 1) xs (p .horizon) ≡ true) × (short (p .clock + 1) xs ≤ p .clock + 1)
     in
     subst P (sym is)
     (rises-later (p .clock) old (p .horizon) (p .ordered) lt, short-later (p .clock) old (p .horizon) (p .ordered) (p .bounded))

@@ -34,12 +34,12 @@ stands (b ∷ bs) d (suc i) before lt e =
     let first = before 0 (omega arith) in
     let other = ne-eqb (b .end) d (omega arith) in
     let more = stands bs d i (before-rest b bs d i before) (omega arith) e in
-    record
-    { within = lt
-    ; held = rw other (more .held)
-    ; ends = e
-    ; owes = rw other (more .owes)
-    ; sets = λ c. rw other (ap (λ xs. b ∷ xs) (more .sets c))
+    record {
+      within = lt;
+      held = rw other (more .held);
+      ends = e;
+      owes = rw other (more .owes);
+      sets = λ c. rw other (ap (λ xs. b ∷ xs) (more .sets c));
     }
 
 -- nothing from s on is a boundary up to s
@@ -59,22 +59,22 @@ lacks s [] h d (suc i) r before le next = absurd (omega arith)
 lacks s (b ∷ bs) h d zero r before le next =
     let lt = next (omega arith) in
     let earlier = lt-ltb d (b .end) lt in
-    record
-    { within = le
-    ; new =
-        or-from (eqb (b .end) d) (is-boundary bs d) (ne-eqb (b .end) d (omega arith))
-        (none-early (b .end) bs h d (rises-rest s b bs h r) (omega arith))
-    ; puts = rw earlier refl
+    record {
+      within = le;
+      new =
+          or-from (eqb (b .end) d) (is-boundary bs d) (ne-eqb (b .end) d (omega arith))
+          (none-early (b .end) bs h d (rises-rest s b bs h r) (omega arith));
+      puts = rw earlier refl;
     }
 lacks s (b ∷ bs) h d (suc i) r before le next =
     let first = before 0 (omega arith) in
     let later = le-ltb d (b .end) (omega arith) in
     let more =
-        lacks (b .end) bs h d i (rises-rest s b bs h r) (before-rest b bs d i before) (omega arith)
-        (λ lt. next (omega arith))
+    lacks (b .end) bs h d i (rises-rest s b bs h r) (before-rest b bs d i before) (omega arith)
+    (λ lt. next (omega arith))
     in
-    record
-    { within = le
-    ; new = or-from (eqb (b .end) d) (is-boundary bs d) (ne-eqb (b .end) d (omega arith)) (more .new)
-    ; puts = rw later (ap (λ xs. b ∷ xs) (more .puts))
+    record {
+      within = le;
+      new = or-from (eqb (b .end) d) (is-boundary bs d) (ne-eqb (b .end) d (omega arith)) (more .new);
+      puts = rw later (ap (λ xs. b ∷ xs) (more .puts));
     }

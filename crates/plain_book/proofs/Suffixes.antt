@@ -41,13 +41,13 @@ placed-at s (b ∷ bs) h zero r le lt =
     { wide = first; early = last; fits = omega arith; lacks = refl; spare = spare-is s b bs; room-before = λ d. refl }
 placed-at s (b ∷ bs) h (suc k) r le lt =
     let more = placed-at (b .end) bs h k (rises-rest s b bs h r) (omega arith) (omega arith) in
-    record
-    { wide = more .wide
-    ; early = more .early
-    ; fits = more .fits
-    ; lacks = more .lacks
-    ; spare = more .spare
-    ; room-before = more .room-before
+    record {
+      wide = more .wide;
+      early = more .early;
+      fits = more .fits;
+      lacks = more .lacks;
+      spare = more .spare;
+      room-before = more .room-before;
     }
 
 -- the same of the interval before a place, for numbers that are known to be its own

@@ -35,9 +35,10 @@ cut-keeps p bs d i at coming is =
     let parts = and-parts (ltb (p .clock) d) (leb d (p .horizon)) coming in
     let after = ltb-true (p .clock) d (parts .0) in
     let within = leb-true d (p .horizon) (parts .1) in
-    let kept : Keeps p (with-boundary (vec-items (p .boundaries)) d) =
-        (rises-with-boundary (p .clock) (vec-items (p .boundaries)) (p .horizon) d (p .ordered) (at .new) after within,
-        omega (arith, short-with-boundary (p .clock) (vec-items (p .boundaries)) d (omega arith), p .bounded))
+    let kept : Keeps p (with-boundary (vec-items (p .boundaries)) d) = (
+      rises-with-boundary (p .clock) (vec-items (p .boundaries)) (p .horizon) d (p .ordered) (at .new) after within,
+      omega (arith, short-with-boundary (p .clock) (vec-items (p .boundaries)) d (omega arith), p .bounded),
+    )
     in
     subst (Keeps p) (at .puts ∙ sym is) kept
 
@@ -96,6 +97,8 @@ due-within p b i within read =
 pub headroom-within : (p : PlainBook) (d : ℕ) → p .clock ≤ d → headroom (plain-meaning p) d ≤ p .horizon
 headroom-within p d le =
     let bs = vec-items (p .boundaries) in
-    omega
-    (arith, headroom-is-room (p .clock) bs (p .horizon) d (p .ordered) le,
-    room-from-le (p .clock) bs (p .horizon) 0 d (p .ordered) (omega arith))
+    omega (
+      arith,
+      headroom-is-room (p .clock) bs (p .horizon) d (p .ordered) le,
+      room-from-le (p .clock) bs (p .horizon) 0 d (p .ordered) (omega arith),
+    )

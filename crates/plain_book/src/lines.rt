@@ -78,10 +78,13 @@ pub impl Book for PlainBook as PlainLines {
         if self.boundaries.len() >= MAX_BOUNDARIES {
             return Err(Refusal::TooManyBoundaries);
         }
-        let _ = self.boundaries.insert(place, Boundary {
-            end: deadline,
-            due: 0,
-        });
+        let _ = self.boundaries.insert(
+            place,
+            Boundary {
+                end: deadline,
+                due: 0,
+            },
+        );
         Ok(())
     }
 

@@ -71,7 +71,9 @@ impl PlainBook {
         let mut room = 0;
         for place in (0..self.boundaries.len()).rev() {
             let interval = self.interval(place);
-            room += interval.free(behind).min(deadline.saturating_sub(interval.start));
+            room += interval
+                .free(behind)
+                .min(deadline.saturating_sub(interval.start));
             behind = interval.lacking(behind);
         }
         room

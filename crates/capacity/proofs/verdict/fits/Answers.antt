@@ -6,8 +6,8 @@ use Rattle.capacity.proofs.verdict.fits.Needs as need
 
 pub returns : need.returns
 returns g c =
-    record
-    { answer = ap (mapped (leb (c .args .demand))) (c .in-Continue-headroom .ensures tt .answer)
-    ; same = c .in-Continue-headroom .ensures tt .same
-    ; exact = headroom-is-least-slack _ _ _
+    record {
+      answer = ap (mapped (leb (c .args .demand))) (c .in-Continue-headroom .ensures tt .answer);
+      same = c .in-Continue-headroom .ensures tt .same;
+      exact = headroom-is-least-slack _ _ _;
     }

@@ -22,22 +22,22 @@ returns g c =
     let fits-due : SFits w64 (c .due-from-due .result) = search needs in
     let says = c .in-Continue-spare .ensures tt .answer in
     let behind : _≡_ {A = Said ℤ} (value next) (value (spare m (c .args .interval + 1))) =
-        c .in-Continue-next .ensures tt .answer
-        ∙ ap (λ x. value (spare x (c .args .interval + 1))) (c .in-Continue-spare .ensures tt .same)
+    c .in-Continue-next .ensures tt .answer
+    ∙ ap (λ x. value (spare x (c .args .interval + 1))) (c .in-Continue-spare .ensures tt .same)
     in
     let due : c .due-from-due .result ≡ due-from (c .saturating-sub-width .result) z next =
-        simp toZ-ofZ at (c .due-from-due .ensures)
+    simp toZ-ofZ at (c .due-from-due .ensures)
     in
     let width = c .saturating-sub-width .ensures in
-    record
-    { answer =
-        rw (toZ-ofZ w64 (c .due-from-due .result) fits-due, toZ-ofZ w32 z fits)
-        (row-answered m (c .args .interval) (c .args .from) (c .args .to) z next (c .due-from-due .result)
-        (c .saturating-sub-width .result) says behind width due)
-    ; same = c .in-Continue-next .ensures tt .same ∙ c .in-Continue-spare .ensures tt .same
-    ; due =
-        λ start end le.
-            rw (toZ-ofZ w64 (c .due-from-due .result) fits-due)
-            (due-held m (c .args .interval) (c .args .from) (c .args .to) z next (c .due-from-due .result)
-            (c .saturating-sub-width .result) says behind width due start end le)
+    record {
+      answer =
+          rw (toZ-ofZ w64 (c .due-from-due .result) fits-due, toZ-ofZ w32 z fits)
+          (row-answered m (c .args .interval) (c .args .from) (c .args .to) z next (c .due-from-due .result)
+          (c .saturating-sub-width .result) says behind width due);
+      same = c .in-Continue-next .ensures tt .same ∙ c .in-Continue-spare .ensures tt .same;
+      due =
+          λ start end le.
+          rw (toZ-ofZ w64 (c .due-from-due .result) fits-due)
+          (due-held m (c .args .interval) (c .args .from) (c .args .to) z next (c .due-from-due .result)
+          (c .saturating-sub-width .result) says behind width due start end le);
     }

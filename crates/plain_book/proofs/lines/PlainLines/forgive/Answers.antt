@@ -15,7 +15,7 @@ pub ghost-self : need.ghost-self
 ghost-self c =
     let book = c .args .self .now in
     let k =
-        forgive-keeps book (c .index-mut .result .now) (c .args .deadline) (c .in-Ok .place) (c .args .demand)
-        (c .in-Ok .ensures tt) (c .index-mut .ensures .value)
+    forgive-keeps book (c .index-mut .result .now) (c .args .deadline) (c .in-Ok .place) (c .args .demand)
+    (c .in-Ok .ensures tt) (c .index-mut .ensures .value)
     in
     (k .0, (k .1, (book .ranged, (search needs, (search needs, tt)))))

@@ -16,7 +16,7 @@ add-self c =
     let book = c .args .self .now in
     let after = boundary-later (book .clock) (vec-items (book .boundaries)) (book .horizon) (c .args .deadline) (book .ordered) (c .in-Ok .ensures tt .held) in
     let due : c .index-mut .result .now .due ≤ 1000000 =
-        omega (arith, due-within book (c .index-mut .result .now) _ (c .in-Ok .ensures tt .within) (c .index-mut .ensures .value), book .ranged)
+    omega (arith, due-within book (c .index-mut .result .now) _ (c .in-Ok .ensures tt .within) (c .index-mut .ensures .value), book .ranged)
     in
     let demand : c .args .demand ≤ 1000000 = omega (arith, headroom-within book (c .args .deadline) (omega arith), book .ranged) in
     search needs
@@ -25,7 +25,7 @@ pub ghost-self : need.ghost-self
 ghost-self c =
     let book = c .args .self .now in
     let k =
-        owe-keeps book (c .index-mut .result .now) (c .args .deadline) (c .in-Ok .place) (c .args .demand)
-        (c .in-Ok .ensures tt) (c .index-mut .ensures .value) (omega arith)
+    owe-keeps book (c .index-mut .result .now) (c .args .deadline) (c .in-Ok .place) (c .args .demand)
+    (c .in-Ok .ensures tt) (c .index-mut .ensures .value) (omega arith)
     in
     (k .0, (k .1, (book .ranged, (search needs, (search needs, tt)))))

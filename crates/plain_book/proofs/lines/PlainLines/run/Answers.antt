@@ -12,9 +12,9 @@ returns-in-Continue-forgive c =
     let law = run-is-forgive-and-pass m (c .in-Some .deadline) (c .args .self .now .ordered) due in
     let left = c .in-Continue-forgive .ensures tt .book in
     let is = c .in-Some .is in
-    record
-    { answer =
-        c .pass-in-Some .ensures .answer ∙ ap (λ x. run-says x None) left ∙ sym (law .0) ∙ ap (run-says m) (sym is)
-    ; book =
-        c .pass-in-Some .ensures .book ∙ ap (λ x. run-leaves x None) left ∙ sym (law .1) ∙ ap (run-leaves m) (sym is)
+    record {
+      answer =
+          c .pass-in-Some .ensures .answer ∙ ap (λ x. run-says x None) left ∙ sym (law .0) ∙ ap (run-says m) (sym is);
+      book =
+          c .pass-in-Some .ensures .book ∙ ap (λ x. run-leaves x None) left ∙ sym (law .1) ∙ ap (run-leaves m) (sym is);
     }

@@ -18,15 +18,15 @@ spare-requires c κs =
 pub returns : need.returns
 returns c =
     let p =
-        turn (c .args .self .now) (c .interval .result) (c .args .interval) (c .lacking-behind .result) (search needs)
-        (search needs) (c .interval .ensures .start) (c .interval .ensures .end) (c .interval .ensures .due)
-        (c .lacking-behind .ensures)
+    turn (c .args .self .now) (c .interval .result) (c .args .interval) (c .lacking-behind .result) (search needs)
+    (search needs) (c .interval .ensures .start) (c .interval .ensures .end) (c .interval .ensures .due)
+    (c .lacking-behind .ensures)
     in
     let fits : SFits w32 (c .spare .result) = search needs in
     let is : c .spare .result ≡ spare (plain-meaning (c .args .self .now)) (c .args .interval) = omega (arith, ints, p .spare, c .spare .ensures) in
-    record
-    { answer =
-        rw (toZ-ofZ w32 (c .spare .result) fits)
-        (spare-answered (plain-meaning (c .args .self .now)) (c .args .interval) _ (search needs) (search needs) is)
-    ; same = refl
+    record {
+      answer =
+          rw (toZ-ofZ w32 (c .spare .result) fits)
+          (spare-answered (plain-meaning (c .args .self .now)) (c .args .interval) _ (search needs) (search needs) is);
+      same = refl;
     }

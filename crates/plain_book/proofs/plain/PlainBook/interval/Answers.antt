@@ -15,6 +15,6 @@ ghost-result c =
     let within : c .args .place < length (vec-items (book .boundaries)) = search needs in
     let p = placed-at _ _ (book .horizon) (c .args .place) (book .ordered) (book .bounded) within in
     let read : c .index .result .now .end ≡ boundary-at (vec-items (book .boundaries)) (c .args .place) .end =
-        ap (λ b. b .end) (getD-read _ _ _ within (c .index .ensures) _)
+    ap (λ b. b .end) (getD-read _ _ _ within (c .index .ensures) _)
     in
     (omega (arith, p .wide), (omega (arith, p .early, book .ranged), tt))

@@ -22,8 +22,8 @@ lacking-behind-requires c κs =
 pub loop-place-again : need.loop-place-again
 loop-place-again c =
     let p =
-        turn (c .args .self .now) (c .interval .result) _ _ (search needs) (search needs) (c .interval .ensures .start)
-        (c .interval .ensures .end) (c .interval .ensures .due) (c .loop-place .inv .1)
+    turn (c .args .self .now) (c .interval .result) _ _ (search needs) (search needs) (c .interval .ensures .start)
+    (c .interval .ensures .end) (c .interval .ensures .due) (c .loop-place .inv .1)
     in
     (search needs, c .lacking-behind .ensures ∙ sym (p .lacks))
 

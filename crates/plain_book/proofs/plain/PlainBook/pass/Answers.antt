@@ -28,8 +28,8 @@ pub ghost-self-else-index-self : need.ghost-self-else-index-self
 ghost-self-else-index-self c =
     let book = c .args .self .now in
     let stays =
-        later-stays (book .clock) (vec-items (book .boundaries)) (book .horizon) (c .index .result .now) (book .ordered)
-        (c .index .ensures) (c .if-index-self .left)
+    later-stays (book .clock) (vec-items (book .boundaries)) (book .horizon) (c .index .result .now) (book .ordered)
+    (c .index .ensures) (c .if-index-self .left)
     in
     let k = pass-keeps book (vec-items (book .boundaries)) (c .if-self .left) (sym stays) in
     (k .0, (k .1, (book .ranged, (book .few, (book .room, tt)))))

@@ -27,8 +27,8 @@ add-room c =
     let book = c .args .self .now in
     let within : c .loop-place .place ≤ length (vec-items (book .boundaries)) = search needs in
     let most =
-        room-from-le (book .clock) (vec-items (book .boundaries)) (book .horizon) (c .loop-place .place) (c .args .deadline)
-        (book .ordered) within
+    room-from-le (book .clock) (vec-items (book .boundaries)) (book .horizon) (c .loop-place .place) (c .args .deadline)
+    (book .ordered) within
     in
     let so-far : c .loop-place .room ≤ 1000000 = omega (arith, c .loop-place .inv .1, book .ranged) in
     let here : c .min-room .result ≤ 1000000 = omega (arith, c .interval-interval .result .early) in
@@ -43,9 +43,9 @@ lacking-behind-requires c κs =
 pub loop-place-again : need.loop-place-again
 loop-place-again c =
     let p =
-        turn (c .args .self .now) (c .interval-interval .result) _ _ (search needs) (search needs)
-        (c .interval-interval .ensures .start) (c .interval-interval .ensures .end) (c .interval-interval .ensures .due)
-        (c .loop-place .inv .0)
+    turn (c .args .self .now) (c .interval-interval .result) _ _ (search needs) (search needs)
+    (c .interval-interval .ensures .start) (c .interval-interval .ensures .end) (c .interval-interval .ensures .due)
+    (c .loop-place .inv .0)
     in
     (c .lacking-behind .ensures ∙ sym (p .lacks), omega (arith, p .room-before (c .args .deadline), c .loop-place .inv .1))
 
