@@ -5,12 +5,11 @@ use Rattle.std.specs.declared.option.Option.the-variants.{Some, None}
 use Rattle.capacity.specs.Calls.{cleared}
 use Rattle.capacity.specs.Filled.{filled, ran}
 use Rattle.capacity.specs.Meaning.{Meaning}
-use Rattle.figures.specs.Figures.{worked, worked-later}
-use Rattle.account.specs.Orders.{orders-leave}
+use Rattle.figures.specs.Figures.{worked}
+use Rattle.account.specs.Day.{orders-leave, day-end}
 
 -- the orders leave the book as it was
 orders-undone : orders-leave worked ≡ worked
-unfolding worked
 orders-undone = refl
 
 pub day-ends :
@@ -22,8 +21,8 @@ pub day-ends :
     ordered ≡ orders-leave asked →
     passed ≡ ran ordered (Some 12 ∷ Some 12 ∷ Some 12 ∷ None ∷ []) →
     printed ≡ passed →
-    printed ≡ worked-later
-unfolding worked worked-later
+    printed ≡ day-end
+unfolding day-end
 day-ends entered asked ordered passed printed fills asks orders runs prints =
     let full : ordered ≡ worked = orders ∙ ap orders-leave (asks ∙ fills) ∙ orders-undone in
     prints ∙ runs ∙ ap (λ m. ran m (Some 12 ∷ Some 12 ∷ Some 12 ∷ None ∷ [])) full

@@ -3,8 +3,7 @@ ghost use mathlib.Core.Path.{_≡_};
 ghost use Rattle.std.specs.Vec.{made};
 ghost use Rattle.capacity.specs.Calls.{cleared, owe-leaves};
 ghost use Rattle.capacity.specs.Filled.{filled, ran};
-ghost use Rattle.account.specs.Orders.{orders-leave};
-ghost use Rattle.figures.specs.Figures.{worked-later};
+ghost use Rattle.account.specs.Day.{orders-leave, day-end};
 use crate::rows::HEADING;
 use crate::rows::Row;
 use crate::rows::RowDisplay;
@@ -43,7 +42,7 @@ const OWNERS: [Option<u32>; 4] = [Some(12), Some(12), Some(12), None];
 
 // Fills a book with the worked example and prints its account. A book that is refused a call here, or a failed print, ends it.
 pub(crate) fn account<B: Book>(rt: &LibcRuntime, book: &mut B) -> Result<(), AnyError>
-    ensures { λ r. ⌜ made r (λ _. B·Book .meaning (now (book .exit)) ≡ worked-later) ⌝ }
+    ensures { λ r. ⌜ made r (λ _. B·Book .meaning (now (book .exit)) ≡ day-end) ⌝ }
 {
     println!(rt, "Account of the worked example\n")?;
     fill(book, HORIZON, &DEMANDS)?;

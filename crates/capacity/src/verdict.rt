@@ -14,7 +14,7 @@ pub fn fits<B: Book>(book: &mut B, deadline: u32, demand: u32) -> Result<bool, R
     ensures same { λ _. ⌜ B·Book .meaning (now (book .exit)) ≡ B·Book .meaning (now (book .entry)) ⌝ }
     ensures exact { λ _. ⌜ Headroom-is-least-slack (B·Book .meaning (now (book .entry))) deadline demand ⌝ }
 {
-    Ok(demand <= book.headroom(deadline)?)
+    headroom_takes(book, deadline, demand)
 }
 
 // Whether the slot at the clock can be spared for work that nothing guarantees. Refused 4 at the horizon.
@@ -23,6 +23,22 @@ pub fn spares_slot<B: Book>(book: &mut B) -> Result<bool, Refusal>
     ensures answer { λ r. ⌜ said r ≡ spares-slot-says (B·Book .meaning (now (book .entry))) ⌝ }
     ensures same { λ _. ⌜ B·Book .meaning (now (book .exit)) ≡ B·Book .meaning (now (book .entry)) ⌝ }
     ensures exact { λ _. ⌜ Spare-means-slack (B·Book .meaning (now (book .entry))) ⌝ }
+{
+    first_has_spare(book)
+}
+
+// Whether the headroom at a deadline takes a demand.
+fn headroom_takes<B: Book>(book: &mut B, deadline: u32, demand: u32) -> Result<bool, Refusal>
+    ensures answer { λ r. ⌜ said r ≡ fits-says (B·Book .meaning (now (book .entry))) deadline demand ⌝ }
+    ensures same { λ _. ⌜ B·Book .meaning (now (book .exit)) ≡ B·Book .meaning (now (book .entry)) ⌝ }
+{
+    Ok(demand <= book.headroom(deadline)?)
+}
+
+// Whether the first interval has a slot to spare.
+fn first_has_spare<B: Book>(book: &mut B) -> Result<bool, Refusal>
+    ensures answer { λ r. ⌜ said r ≡ spares-slot-says (B·Book .meaning (now (book .entry))) ⌝ }
+    ensures same { λ _. ⌜ B·Book .meaning (now (book .exit)) ≡ B·Book .meaning (now (book .entry)) ⌝ }
 {
     Ok(book.spare(1)? >= 1)
 }

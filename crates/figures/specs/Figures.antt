@@ -21,13 +21,13 @@ abbrev pub spares-of : Meaning → List ℤ
 spares-of m = spares (m .clock) (m .boundaries)
 
 -- The worked example: horizon 12, with 2, 1, 1 and 5 slots due at 6, 8, 10 and 12.
-unfoldable pub worked : Meaning
+abbrev pub worked : Meaning
 worked =
     filled (cleared 12)
     (record { end = 6; due = 2 } ∷ record { end = 8; due = 1 } ∷ record { end = 10; due = 1 } ∷ record { end = 12; due = 5 } ∷ [])
 
 -- The same after three slots for 12 and one for nobody.
-unfoldable pub worked-later : Meaning
+abbrev pub worked-later : Meaning
 worked-later = ran worked (Some 12 ∷ Some 12 ∷ Some 12 ∷ None ∷ [])
 
 abbrev pub figures : List (Type 0)

@@ -71,9 +71,7 @@ impl PlainBook {
         let mut room = 0;
         for place in (0..self.boundaries.len()).rev() {
             let interval = self.interval(place);
-            room += interval
-                .free(behind)
-                .min(deadline.saturating_sub(interval.start));
+            room += interval.free_before(deadline, behind);
             behind = interval.lacking(behind);
         }
         room

@@ -1,5 +1,5 @@
 // The arithmetic of one interval, in natural numbers but for the spare capacity itself.
-ghost use Prim.Native.Nat.{_+_, _-_, _≤_, _<_};
+ghost use Prim.Native.Nat.{_+_, _-_, _≤_, _<_, min};
 ghost use lib.IntN.{pos, _+ℤ_};
 ghost use mathlib.Core.Path.{_≡_};
 ghost use Rattle.terms.specs.Limits.{longest-horizon};
@@ -24,7 +24,7 @@ impl Interval {
     }
 
     // What it has free.
-    pub(crate) fn free(self, behind: u32) -> u32
+    fn free(self, behind: u32) -> u32
         requires { ⌜ self .due + behind ≤ self .end ⌝ }
         ensures { λ r. ⌜ r ≡ self .end - (self .start + self .due + behind) ⌝ }
     {
@@ -37,5 +37,12 @@ impl Interval {
         ensures { λ r. ⌜ r +ℤ pos (self .start + self .due + behind) ≡ pos (self .end) ⌝ }
     {
         (self.end - self.start) as i32 - (self.due + behind) as i32
+    }
+    // What it has free before a slot.
+    pub(crate) fn free_before(self, slot: u32, behind: u32) -> u32
+        requires { ⌜ self .due + behind ≤ self .end ⌝ }
+        ensures { λ r. ⌜ r ≡ min (slot - self .start) (self .end - (self .start + self .due + behind)) ⌝ }
+    {
+        self.free(behind).min(slot.saturating_sub(self.start))
     }
 }

@@ -16,8 +16,8 @@ loop-place-holds c =
     let all : c .len-place .result ≡ length bs = search needs in
     (rw all (sym (short-all (book .clock) bs)), rw all (sym (room-all (book .clock) bs (c .args .deadline))))
 
-pub free-requires : need.free-requires
-free-requires c κs =
+pub free-before-room-requires : need.free-before-room-requires
+free-before-room-requires c κs =
     turn (c .args .self .now) (c .interval-interval .result) _ _ (search needs) (search needs)
     (c .interval-interval .ensures .start) (c .interval-interval .ensures .end) (c .interval-interval .ensures .due)
     (c .loop-place .inv .0) .fits
@@ -31,7 +31,7 @@ add-room c =
     (book .ordered) within
     in
     let so-far : c .loop-place .room ≤ 1000000 = omega (arith, c .loop-place .inv .1, book .ranged) in
-    let here : c .min-room .result ≤ 1000000 = omega (arith, c .interval-interval .result .early) in
+    let here : c .free-before-room .result ≤ 1000000 = omega (arith, c .interval-interval .result .early) in
     search needs
 
 pub lacking-behind-requires : need.lacking-behind-requires
