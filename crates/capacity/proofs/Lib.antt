@@ -3,3 +3,4 @@ pub mod Least
 pub mod Keeps
 pub mod Slots
 pub mod Intervals
+pub mod Order

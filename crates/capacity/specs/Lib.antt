@@ -5,3 +5,4 @@ pub mod Filled
 pub mod Intervals
 pub mod Slack
 pub mod Shortage
+pub mod Reached

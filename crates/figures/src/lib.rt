@@ -8,5 +8,12 @@ pub fn worked_figures() -> usize
     ensures hold { λ _. ⌜ All-hold figures ⌝ }
     ensures count { λ r. ⌜ r ≡ length figures ⌝ }
 {
+    listed()
+}
+
+// The length of the list.
+fn listed() -> usize
+    ensures { λ r. ⌜ r ≡ length figures ⌝ }
+{
     7
 }

@@ -1,4 +1,5 @@
 use Rattle.capacity.proofs.Least.{headroom-is-least-slack}
+use Rattle.capacity.proofs.Order.{reached-ordered}
 use Rattle.capacity.proofs.verdict.fits.Needs as need
 
 pub returns : need.returns
@@ -7,4 +8,5 @@ returns g c =
       answer = c .headroom-takes .ensures .answer;
       same = c .headroom-takes .ensures .same;
       exact = headroom-is-least-slack _ _ _;
+      ordered = reached-ordered;
     }
