@@ -26,6 +26,7 @@ impl PlainBook {
         }
         Err(self.boundaries.len())
     }
+
     // Where the interval at a place begins.
     fn start(&self, place: usize) -> u32
         requires { ⌜ place ≤ vec-len (now self .boundaries) ⌝ }

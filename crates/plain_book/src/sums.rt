@@ -38,6 +38,7 @@ impl Interval {
     {
         (self.end - self.start) as i32 - (self.due + behind) as i32
     }
+
     // What it has free before a slot.
     pub(crate) fn free_before(self, slot: u32, behind: u32) -> u32
         requires { ⌜ self .due + behind ≤ self .end ⌝ }
