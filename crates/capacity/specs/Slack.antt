@@ -33,8 +33,8 @@ abbrev pub Ordered : Meaning → Type 0
 Ordered m = rises (m .clock) (m .boundaries) (m .horizon) ≡ true
 
 -- No slack is negative.
-abbrev pub Met : Meaning → Type 0
-Met m = Slack-from m (m .clock + 1) 0
+abbrev pub No-negative-slack : Meaning → Type 0
+No-negative-slack m = Slack-from m (m .clock + 1) 0
 
 -- P holds exactly when Q does.
 abbrev pub Exactly : Type 0 → Type 0 → Type 0
@@ -43,9 +43,9 @@ Exactly P Q = (P → Q) × (Q → P)
 -- The headroom at d is the least slack from d on.
 abbrev pub Headroom-is-least-slack : Meaning → ℕ → ℕ → Type 0
 Headroom-is-least-slack m d c =
-    Ordered m → Met m → m .clock < d → d ≤ m .horizon → Exactly (c ≤ headroom m d) (Slack-from m d c)
+    Ordered m → No-negative-slack m → m .clock < d → d ≤ m .horizon → Exactly (c ≤ headroom m d) (Slack-from m d c)
 
 -- The first interval has a slot to spare exactly when every slack is at least 1.
 abbrev pub Spare-means-slack : Meaning → Type 0
 Spare-means-slack m =
-    Ordered m → Met m → m .clock < m .horizon → Exactly (pos 1 ≤ℤ spare m 1) (Slack-from m (m .clock + 1) 1)
+    Ordered m → No-negative-slack m → m .clock < m .horizon → Exactly (pos 1 ≤ℤ spare m 1) (Slack-from m (m .clock + 1) 1)
