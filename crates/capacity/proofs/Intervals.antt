@@ -7,7 +7,10 @@ use mathlib.Core.Path.{_≡_, refl, ap}
 use native.Mathlib.Omega.{arith}
 use Rattle.std.specs.Numbers.{minZ}
 use Rattle.std.proofs.shelf.Lists.{getD-past}
+use Rattle.std.proofs.shelf.Tests.{le-leb}
+use Rattle.terms.specs.Answers.{value}
 use Rattle.capacity.specs.declared.boundary.Boundary.{Boundary}
+use Rattle.capacity.specs.Calls.{spare-says}
 use Rattle.capacity.specs.Intervals.{start-at, boundary-at}
 use Rattle.capacity.specs.Meaning.{Meaning}
 use Rattle.capacity.specs.Spare.{spares, spare}
@@ -31,3 +34,8 @@ pub spare-past : (m : Meaning) (i : ℕ) → length (m .boundaries) < i → spar
 spare-past m i past =
     getD-past (spares (m .clock) (m .boundaries)) (i - 1) (pos 0)
     (omega (arith, length-spares (m .clock) (m .boundaries)))
+
+-- a number of an interval is not refused
+pub spare-answered :
+    (m : Meaning) (i : ℕ) (z : ℤ) → 1 ≤ i → i ≤ length (m .boundaries) → z ≡ spare m i → value z ≡ spare-says m i
+spare-answered m i z first last is = rw (le-leb 1 i first, le-leb i (length (m .boundaries)) last) (ap value is)

@@ -10,6 +10,7 @@ use native.Mathlib.Omega.{arith}
 use Rattle.std.proofs.shelf.Tests.{cases-lt, cases-bool, and-from, eqb-true, eqb-false, lt-ltb, le-ltb, eq-eqb, ne-eqb, both-ways, or-parts}
 use Rattle.capacity.specs.declared.boundary.Boundary.{Boundary}
 use Rattle.capacity.specs.Calls.{is-boundary, due-at, with-due, with-boundary, later-than}
+use Rattle.capacity.specs.Noted.{first-end}
 use Rattle.capacity.specs.Shortage.{short}
 use Rattle.capacity.specs.Slack.{rises}
 use Rattle.capacity.proofs.Naturals.{room, rises-first, rises-rest, room-none}
@@ -113,32 +114,47 @@ short-with-boundary s (b ∷ bs) d le =
     rw (le-ltb d (b .end) ge) (omega arith))
     (cases-lt d (b .end))
 
+-- slots of the first interval pass, and the boundary that the clock reaches goes
+pub rises-after :
+    (s t : ℕ) (bs : List Boundary) (h : ℕ) → rises s bs h ≡ true → s ≤ t → t ≤ first-end s bs →
+    rises t (later-than t bs) h ≡ true
+rises-after s t [] h r st te = let e : t ≡ s = omega arith in rw e r
+rises-after s t (b ∷ bs) h r st te =
+    let rest = rises-rest s b bs h r in
+    ⊎-elim
+    (λ (lt : t < b .end). rw (lt-ltb t (b .end) lt) (rises-cons t b bs h lt rest))
+    (λ (ge : b .end ≤ t).
+    let e : t ≡ b .end = omega arith in
+    rw (le-ltb t (b .end) ge) (rw e rest))
+    (cases-lt t (b .end))
+
+pub short-after :
+    (s t : ℕ) (bs : List Boundary) → short s bs ≤ s → s ≤ t → t ≤ first-end s bs → short t (later-than t bs) ≤ t
+short-after s t [] le st te = omega arith
+short-after s t (b ∷ bs) le st te =
+    ⊎-elim
+    (λ (lt : t < b .end). rw (lt-ltb t (b .end) lt) (omega arith))
+    (λ (ge : b .end ≤ t).
+    let e : t ≡ b .end = omega arith in
+    let fits : short (b .end) bs ≤ b .end = omega arith in
+    rw (le-ltb t (b .end) ge) (rw e fits))
+    (cases-lt t (b .end))
+
+-- before the horizon the first interval has a slot
+pub slot-left : (s : ℕ) (bs : List Boundary) (h : ℕ) → rises s bs h ≡ true → s < h → s + 1 ≤ first-end s bs
+slot-left s [] h r sh = let e = eqb-true s h r in absurd (omega arith)
+slot-left s (b ∷ bs) h r sh = let first = rises-first s b bs h r in omega arith
+
 -- a slot passes
 pub rises-later :
     (s : ℕ) (bs : List Boundary) (h : ℕ) → rises s bs h ≡ true → s < h → rises (s + 1) (later-than (s + 1) bs) h ≡ true
-rises-later s [] h r sh = let e = eqb-true s h r in absurd (omega arith)
-rises-later s (b ∷ bs) h r sh =
-    let first = rises-first s b bs h r in
-    let rest = rises-rest s b bs h r in
-    ⊎-elim
-    (λ (lt : s + 1 < b .end). rw (lt-ltb (s + 1) (b .end) lt) (rises-cons (s + 1) b bs h lt rest))
-    (λ (ge : b .end ≤ s + 1).
-    let e : s + 1 ≡ b .end = omega arith in
-    rw (le-ltb (s + 1) (b .end) ge) (rw e rest))
-    (cases-lt (s + 1) (b .end))
+rises-later s bs h r sh = rises-after s (s + 1) bs h r (omega arith) (slot-left s bs h r sh)
+
+pub short-later :
+    (s : ℕ) (bs : List Boundary) (h : ℕ) → rises s bs h ≡ true → s < h → short s bs ≤ s →
+    short (s + 1) (later-than (s + 1) bs) ≤ s + 1
+short-later s bs h r sh le = short-after s (s + 1) bs le (omega arith) (slot-left s bs h r sh)
 
 -- what is due at the end of the first interval, and what the others take before it, fit before that end
 pub due-fits : (s : ℕ) (b : Boundary) (bs : List Boundary) → short s (b ∷ bs) ≤ s → b .due + short (b .end) bs ≤ b .end
 due-fits s b bs le = omega arith
-
-pub short-later : (s : ℕ) (bs : List Boundary) (h : ℕ) → rises s bs h ≡ true → short s bs ≤ s → short (s + 1) (later-than (s + 1) bs) ≤ s + 1
-short-later s [] h r le = omega arith
-short-later s (b ∷ bs) h r le =
-    let first = rises-first s b bs h r in
-    ⊎-elim
-    (λ (lt : s + 1 < b .end). rw (lt-ltb (s + 1) (b .end) lt) (omega arith))
-    (λ (ge : b .end ≤ s + 1).
-    let e : s + 1 ≡ b .end = omega arith in
-    let fits : short (b .end) bs ≤ b .end = omega arith in
-    rw (le-ltb (s + 1) (b .end) ge) (rw e fits))
-    (cases-lt (s + 1) (b .end))

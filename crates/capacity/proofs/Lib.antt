@@ -4,3 +4,6 @@ pub mod Keeps
 pub mod Slots
 pub mod Intervals
 pub mod Order
+pub mod Places
+pub mod Suffixes
+pub mod Passing

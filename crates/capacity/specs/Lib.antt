@@ -3,6 +3,8 @@ pub mod Spare
 pub mod Calls
 pub mod Filled
 pub mod Intervals
+pub mod Places
+pub mod Noted
 pub mod Slack
 pub mod Shortage
 pub mod Reached

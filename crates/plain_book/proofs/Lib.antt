@@ -1,5 +1,3 @@
-mod Standing
-mod Suffixes
 mod Turns
 mod Writes
 mod Passing

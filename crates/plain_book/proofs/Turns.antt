@@ -1,18 +1,12 @@
 -- One turn of a sum over the intervals of a book, from the last to the first: the interval before place k.
 use Prim.Native.Nat.{ℕ, _-_, _≤_, _<_}
-use lib.IntN.{ℤ}
 use lib.ListN.{length}
-use mathlib.Core.Path.{_≡_, ap}
+use mathlib.Core.Path.{_≡_}
 use Rattle.std.specs.Of.Vec.{vec-items}
-use Rattle.std.proofs.shelf.Tests.{le-leb}
-use Rattle.terms.specs.Answers.{value}
-use Rattle.capacity.specs.Calls.{spare-says}
-use Rattle.capacity.specs.Meaning.{Meaning}
-use Rattle.capacity.specs.Spare.{spare}
 use Rattle.plain_book.specs.declared.plain.PlainBook.{PlainBook}
 use Rattle.plain_book.specs.declared.sums.Interval.{Interval}
 use Rattle.capacity.specs.Intervals.{boundary-at, start-at}
-use Rattle.plain_book.proofs.Suffixes.{Placed, placed, short-from}
+use Rattle.capacity.proofs.Suffixes.{Placed, placed, short-from}
 
 pub turn :
     (book : PlainBook) (interval : Interval) (k behind : ℕ) → 0 < k → k ≤ length (vec-items (book .boundaries)) →
@@ -25,8 +19,3 @@ pub turn :
 turn book interval k behind lt within start end due taken =
     placed (book .clock) (vec-items (book .boundaries)) (book .horizon) k (book .ordered) (book .bounded) lt within
     (interval .start) (interval .end) (interval .due) behind start end due taken
-
--- a number of an interval is not refused
-pub spare-answered :
-    (m : Meaning) (i : ℕ) (z : ℤ) → 1 ≤ i → i ≤ length (m .boundaries) → z ≡ spare m i → value z ≡ spare-says m i
-spare-answered m i z first last is = rw (le-leb 1 i first, le-leb i (length (m .boundaries)) last) (ap value is)

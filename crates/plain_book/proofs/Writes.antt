@@ -19,8 +19,9 @@ use Rattle.capacity.proofs.Keeps.{boundary-later, rises-with-due, rises-with-bo
 use Rattle.capacity.proofs.Naturals.{headroom-is-room}
 use Rattle.plain_book.specs.declared.plain.PlainBook.{PlainBook}
 use Rattle.capacity.specs.Intervals.{boundary-at}
-use Rattle.plain_book.specs.Plain.{plain-meaning, Stands, Lacks}
-use Rattle.plain_book.proofs.Suffixes.{placed-at, room-from-le}
+use Rattle.capacity.specs.Places.{Stands, Lacks}
+use Rattle.plain_book.specs.Plain.{plain-meaning}
+use Rattle.capacity.proofs.Suffixes.{placed-at, room-from-le}
 
 -- what the ghost fields ask of new boundaries
 abbrev pub Keeps : PlainBook → List Boundary → Type 0

@@ -1,38 +1,8 @@
--- What a plain book means, and the places of its boundaries.
-use Prim.Native.Nat.{ℕ, _≤_, _<_}
-use lib.ListN.{length, set}
-use mathlib.Core.Bool.{true, false}
-use mathlib.Core.List.{List}
-use mathlib.Core.Path.{_≡_}
-use Rattle.std.specs.Holes.{inserted}
+-- What a plain book means.
 use Rattle.std.specs.Of.Vec.{vec-items}
-use Rattle.std.specs.declared.result.Result.{Result}
-use Rattle.std.specs.declared.result.Result.the-variants.{Ok, Err}
-use Rattle.capacity.specs.Calls.{is-boundary, due-at, with-due, with-boundary}
-use Rattle.capacity.specs.Intervals.{boundary-at}
 use Rattle.capacity.specs.Meaning.{Meaning}
-use Rattle.capacity.specs.declared.boundary.Boundary.{Boundary}
 use Rattle.plain_book.specs.declared.plain.PlainBook.{PlainBook}
 
 -- Just what it keeps.
 abbrev pub plain-meaning : PlainBook → Meaning
 plain-meaning p = record { clock = p .clock; horizon = p .horizon; boundaries = vec-items (p .boundaries) }
-
--- d is the boundary at place i.
-pub record Stands (bs : List Boundary) (d i : ℕ) : Type 0 where
-  pub within : i < length bs
-  pub held : is-boundary bs d ≡ true
-  pub ends : boundary-at bs i .end ≡ d
-  pub owes : boundary-at bs i .due ≡ due-at bs d
-  pub sets : (c : ℕ) → with-due bs d c ≡ set bs i (record { end = d; due = c })
-
--- d is no boundary, and would be the one at place i.
-pub record Lacks (bs : List Boundary) (d i : ℕ) : Type 0 where
-  pub within : i ≤ length bs
-  pub new : is-boundary bs d ≡ false
-  pub puts : with-boundary bs d ≡ inserted bs i (record { end = d; due = 0 })
-
--- What a search for d answers.
-abbrev pub Found : List Boundary → ℕ → Result ℕ ℕ → Type 0
-Found bs d (Ok i) = Stands bs d i
-Found bs d (Err i) = Lacks bs d i

@@ -5,8 +5,9 @@ use borrow.Author.Needs.{needs}
 use native.Mathlib.Omega.{arith}
 use Rattle.std.proofs.shelf.Signed.{ints, toZ-ofZ}
 use Rattle.capacity.specs.Spare.{spare}
+use Rattle.capacity.proofs.Intervals.{spare-answered}
 use Rattle.plain_book.specs.Plain.{plain-meaning}
-use Rattle.plain_book.proofs.Turns.{turn, spare-answered}
+use Rattle.plain_book.proofs.Turns.{turn}
 use Rattle.plain_book.proofs.lines.PlainLines.spare.Needs as need
 
 pub spare-requires : need.spare-requires

@@ -1,6 +1,6 @@
 use borrow.Author.Needs.{needs}
 use native.Mathlib.Omega.{arith}
-use Rattle.plain_book.proofs.Standing.{stands, lacks}
+use Rattle.capacity.proofs.Places.{stands, lacks}
 use Rattle.plain_book.proofs.plain.PlainBook.find.Needs as need
 
 pub returns-then-boundary-deadline : need.returns-then-boundary-deadline

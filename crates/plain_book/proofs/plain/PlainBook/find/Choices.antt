@@ -1,5 +1,5 @@
 use Rattle.std.specs.Of.Vec.{vec-items}
-use Rattle.plain_book.proofs.Standing.{Before}
+use Rattle.capacity.proofs.Places.{Before}
 use Rattle.plain_book.proofs.plain.PlainBook.find.Given as given
 
 abbrev pub Inv-loop-i : given.InvT-loop-i

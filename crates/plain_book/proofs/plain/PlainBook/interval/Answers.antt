@@ -6,7 +6,7 @@ use native.Mathlib.Omega.{arith}
 use Rattle.std.specs.Of.Vec.{vec-items}
 use Rattle.std.proofs.shelf.Lists.{getD-read}
 use Rattle.capacity.specs.Intervals.{boundary-at}
-use Rattle.plain_book.proofs.Suffixes.{placed-at}
+use Rattle.capacity.proofs.Suffixes.{placed-at}
 use Rattle.plain_book.proofs.plain.PlainBook.interval.Needs as need
 
 pub ghost-result : need.ghost-result

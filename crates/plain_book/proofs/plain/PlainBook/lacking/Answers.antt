@@ -4,7 +4,7 @@ use lib.ListN.{length}
 use borrow.Author.Needs.{needs}
 use native.Mathlib.Omega.{arith}
 use Rattle.std.specs.Of.Vec.{vec-items}
-use Rattle.plain_book.proofs.Suffixes.{short-from, short-all}
+use Rattle.capacity.proofs.Suffixes.{short-from, short-all}
 use Rattle.plain_book.proofs.Turns.{turn}
 use Rattle.plain_book.proofs.plain.PlainBook.lacking.Needs as need
 

@@ -1,7 +1,7 @@
 use Prim.Native.Nat.{_≤_}
 use mathlib.Core.Path.{_≡_}
 use Rattle.std.specs.Of.Vec.{vec-items}
-use Rattle.plain_book.proofs.Suffixes.{short-from}
+use Rattle.capacity.proofs.Suffixes.{short-from}
 use Rattle.plain_book.proofs.plain.PlainBook.lacking.Given as given
 
 abbrev pub Inv-loop-place : given.InvT-loop-place

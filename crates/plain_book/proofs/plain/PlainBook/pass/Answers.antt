@@ -4,7 +4,8 @@ use borrow.Author.Needs.{needs}
 use native.Mathlib.Omega.{arith}
 use Rattle.std.specs.Of.Vec.{vec-items}
 use Rattle.capacity.proofs.Least.{rises-le}
-use Rattle.plain_book.proofs.Passing.{some-left, later-stays, later-goes, pass-keeps}
+use Rattle.capacity.proofs.Passing.{some-left, later-stays, later-goes}
+use Rattle.plain_book.proofs.Passing.{pass-keeps}
 use Rattle.plain_book.proofs.plain.PlainBook.pass.Needs as need
 
 pub add-self : need.add-self

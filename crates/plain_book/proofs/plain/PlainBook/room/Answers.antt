@@ -5,7 +5,7 @@ use borrow.Author.Needs.{needs}
 use native.Mathlib.Omega.{arith}
 use Rattle.std.specs.Of.Vec.{vec-items}
 use Rattle.capacity.proofs.Naturals.{headroom-is-room}
-use Rattle.plain_book.proofs.Suffixes.{room-from, short-all, room-all, room-from-le}
+use Rattle.capacity.proofs.Suffixes.{room-from, short-all, room-all, room-from-le}
 use Rattle.plain_book.proofs.Turns.{turn}
 use Rattle.plain_book.proofs.plain.PlainBook.room.Needs as need
 

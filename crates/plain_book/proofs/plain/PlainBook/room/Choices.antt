@@ -1,6 +1,6 @@
 use mathlib.Core.Path.{_≡_}
 use Rattle.std.specs.Of.Vec.{vec-items}
-use Rattle.plain_book.proofs.Suffixes.{short-from, room-from}
+use Rattle.capacity.proofs.Suffixes.{short-from, room-from}
 use Rattle.plain_book.proofs.plain.PlainBook.room.Given as given
 
 abbrev pub Inv-loop-place : given.InvT-loop-place

@@ -5,7 +5,7 @@ use borrow.Author.Needs.{needs}
 use native.Mathlib.Omega.{arith}
 use Rattle.std.specs.Of.Vec.{vec-items}
 use Rattle.std.proofs.shelf.Lists.{getD-read}
-use Rattle.plain_book.proofs.Suffixes.{start-is}
+use Rattle.capacity.proofs.Suffixes.{start-is}
 use Rattle.plain_book.proofs.plain.PlainBook.start.Needs as need
 
 pub returns-else-place-eq0 : need.returns-else-place-eq0

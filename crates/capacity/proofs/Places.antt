@@ -9,13 +9,13 @@ use mathlib.Core.Path.{_≡_, refl, sym, ap, _∙_}
 use native.Mathlib.Omega.{arith}
 use Rattle.std.specs.Holes.{inserted}
 use Rattle.std.proofs.shelf.Tests.{cases-bool, eq-eqb, ne-eqb, lt-ltb, le-ltb, or-from}
 use Rattle.capacity.specs.declared.boundary.Boundary.{Boundary}
 use Rattle.capacity.specs.Calls.{is-boundary, due-at, with-due, with-boundary}
 use Rattle.capacity.specs.Slack.{rises}
 use Rattle.capacity.proofs.Keeps.{boundary-later}
 use Rattle.capacity.proofs.Naturals.{rises-first, rises-rest}
 use Rattle.capacity.specs.Intervals.{boundary-at}
-use Rattle.plain_book.specs.Plain.{Stands, Lacks}
+use Rattle.capacity.specs.Places.{Stands, Lacks}
 
 -- every boundary at a place before i ends before d
 abbrev pub Before : List Boundary → ℕ → ℕ → Type 0

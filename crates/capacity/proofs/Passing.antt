@@ -1,0 +1,40 @@
+-- A slot that passes: whether the first boundary goes.
+use Prim.Native.Nat.{ℕ, _+_, _≤_, _<_}
+use lib.ListN.{length, getD}
+use mathlib.Core.Bool.{true}
+use mathlib.Core.List.{List, [], _∷_}
+use mathlib.Core.Path.{_≡_, refl, ap}
+use native.Mathlib.Omega.{arith}
+use Rattle.std.specs.Holes.{removed}
+use Rattle.std.proofs.shelf.Tests.{eqb-true, lt-ltb, le-ltb}
+use Rattle.capacity.specs.declared.boundary.Boundary.{Boundary}
+use Rattle.capacity.specs.Calls.{later-than}
+use Rattle.capacity.specs.Slack.{rises}
+use Rattle.capacity.proofs.Naturals.{rises-first}
+
+-- before the horizon some boundary is left
+pub some-left : (s : ℕ) (bs : List Boundary) (h : ℕ) → rises s bs h ≡ true → (s ≡ h → ⊥) → 0 < length bs
+some-left s [] h r before = absurd (before (eqb-true s h r))
+some-left s (b ∷ bs) h r before = omega arith
+
+pub later-stays :
+    (s : ℕ) (bs : List Boundary) (h : ℕ) (b : Boundary) → rises s bs h ≡ true → b ≡ getD bs 0 b →
+    (b .end ≡ s + 1 → ⊥) →
+    later-than (s + 1) bs ≡ bs
+later-stays s [] h b r read past = refl
+later-stays s (x ∷ bs) h b r read past =
+    let first = rises-first s x bs h r in
+    let is = ap (λ y. y .end) read in
+    let lt : s + 1 < x .end = omega (arith, past) in
+    rw (lt-ltb (s + 1) (x .end) lt) refl
+
+pub later-goes :
+    (s : ℕ) (bs : List Boundary) (h : ℕ) (b : Boundary) → rises s bs h ≡ true → b ≡ getD bs 0 b →
+    b .end ≡ s + 1 →
+    0 < length bs →
+    later-than (s + 1) bs ≡ removed bs 0
+later-goes s [] h b r read here some = absurd (omega arith)
+later-goes s (x ∷ bs) h b r read here some =
+    let is = ap (λ y. y .end) read in
+    let le : x .end ≤ s + 1 = omega arith in
+    rw (le-ltb (s + 1) (x .end) le) refl
