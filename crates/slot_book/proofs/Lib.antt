@@ -1,0 +1,4 @@
+mod Fits
+pub mod Correspond
+mod Carrying
+mod Walking

@@ -1,0 +1,4 @@
+pub mod Small
+pub mod Carry
+pub mod Spans
+pub mod Slot

@@ -1,0 +1,8 @@
+// The slot-by-slot book: it keeps the spares, and mends them at every run.
+mod lines;
+mod slot;
+mod span;
+mod walk;
+
+pub use slot::SlotBook;
+use span::Span;
