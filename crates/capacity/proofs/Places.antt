@@ -8,7 +8,7 @@ use mathlib.Core.Logic.{⊎-elim}
 use mathlib.Core.Path.{_≡_, refl, sym, ap, _∙_}
 use native.Mathlib.Omega.{arith}
 use Rattle.std.specs.Holes.{inserted}
-use Rattle.std.proofs.shelf.Tests.{cases-bool, eq-eqb, ne-eqb, lt-ltb, le-ltb, or-from}
+use Rattle.std.proofs.shelf.Tests.{cases-lt, cases-bool, eq-eqb, ne-eqb, lt-ltb, le-ltb, or-from}
 use Rattle.capacity.specs.declared.boundary.Boundary.{Boundary}
 use Rattle.capacity.specs.Calls.{is-boundary, due-at, with-due, with-boundary}
 use Rattle.capacity.specs.Slack.{rises}
@@ -78,3 +78,86 @@ lacks s (b ∷ bs) h d (suc i) r before le next =
       new = or-from (eqb (b .end) d) (is-boundary bs d) (ne-eqb (b .end) d (omega arith)) (more .new);
       puts = rw later (ap (λ xs. b ∷ xs) (more .puts));
     }
+
+-- boundaries lie behind the start, and rise by their places
+pub end-later :
+    (s : ℕ) (bs : List Boundary) (h k : ℕ) → rises s bs h ≡ true → k < length bs → s < boundary-at bs k .end
+end-later s [] h k r lt = absurd (omega arith)
+end-later s (b ∷ bs) h zero r lt = rises-first s b bs h r
+end-later s (b ∷ bs) h (suc k) r lt =
+    let first = rises-first s b bs h r in
+    let more = end-later (b .end) bs h k (rises-rest s b bs h r) (omega arith) in
+    omega arith
+
+pub ends-rise :
+    (s : ℕ) (bs : List Boundary) (h j k : ℕ) → rises s bs h ≡ true → j < k → k < length bs →
+    boundary-at bs j .end < boundary-at bs k .end
+ends-rise s [] h j k r jk lt = absurd (omega arith)
+ends-rise s (b ∷ bs) h j zero r jk lt = absurd (omega arith)
+ends-rise s (b ∷ bs) h zero (suc k) r jk lt = end-later (b .end) bs h k (rises-rest s b bs h r) (omega arith)
+ends-rise s (b ∷ bs) h (suc j) (suc k) r jk lt = ends-rise (b .end) bs h j k (rises-rest s b bs h r) (omega arith) (omega arith)
+
+-- a search by halves: everything before `low` ends before d, and everything from `high` on ends after it
+pub record Between (bs : List Boundary) (d low high : ℕ) : Type 0 where
+  pub order : low ≤ high
+  pub within : high ≤ length bs
+  pub before : Before bs d low
+  pub behind : (k : ℕ) → high ≤ k → k < length bs → d < boundary-at bs k .end
+
+pub between-all : (bs : List Boundary) (d n : ℕ) → n ≡ length bs → Between bs d 0 n
+between-all bs d n is =
+    record {
+      order = omega arith;
+      within = omega arith;
+      before = λ k lt. absurd (omega arith);
+      behind = λ k ge lt. absurd (omega arith);
+    }
+
+pub between-stands :
+    (s : ℕ) (bs : List Boundary) (h d low high i : ℕ) → rises s bs h ≡ true → Between bs d low high → i < high →
+    boundary-at bs i .end ≡ d →
+    Stands bs d i
+between-stands s bs h d low high i r b lt e =
+    let within : i < length bs = omega (arith, b .within) in
+    stands bs d i (λ k ki. omega (arith, ends-rise s bs h k i r ki within)) within e
+
+pub between-above :
+    (s : ℕ) (bs : List Boundary) (h d low high i : ℕ) → rises s bs h ≡ true → Between bs d low high → i < high →
+    boundary-at bs i .end < d →
+    Between bs d (i + 1) high
+between-above s bs h d low high i r b lt e =
+    let within : i < length bs = omega (arith, b .within) in
+    record {
+      order = omega arith;
+      within = b .within;
+      before =
+          λ k ki.
+          ⊎-elim
+          (λ (less : k < i). omega (arith, ends-rise s bs h k i r less within))
+          (λ (more : i ≤ k). let here : k ≡ i = omega arith in rw here e)
+          (cases-lt k i);
+      behind = b .behind;
+    }
+
+pub between-below :
+    (s : ℕ) (bs : List Boundary) (h d low high i : ℕ) → rises s bs h ≡ true → Between bs d low high → low ≤ i → i < high →
+    d < boundary-at bs i .end →
+    Between bs d low i
+between-below s bs h d low high i r b le lt e =
+    let within : i < length bs = omega (arith, b .within) in
+    record {
+      order = le;
+      within = omega arith;
+      before = b .before;
+      behind =
+          λ k ge kl.
+          ⊎-elim
+          (λ (more : i < k). omega (arith, ends-rise s bs h i k r more kl))
+          (λ (less : k ≤ i). let here : k ≡ i = omega arith in rw here e)
+          (cases-lt i k);
+    }
+
+pub between-none :
+    (s : ℕ) (bs : List Boundary) (h d low high : ℕ) → rises s bs h ≡ true → Between bs d low high → high ≤ low → Lacks bs d low
+between-none s bs h d low high r b ge =
+    lacks s bs h d low r (b .before) (omega (arith, b .order, b .within)) (λ lt. b .behind low ge lt)

@@ -2,3 +2,4 @@ mod Fits
 pub mod Correspond
 mod Carrying
 mod Walking
+mod Books

@@ -1,5 +1,6 @@
 // The slot-by-slot book: it keeps the spares, and mends them at every run.
 mod lines;
+mod places;
 mod slot;
 mod span;
 mod walk;

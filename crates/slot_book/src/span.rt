@@ -1,8 +1,11 @@
 // One record of a book that keeps spares, and its arithmetic. It is signed: a spare may be negative, and then the interval
 // takes as much from the one before it.
+ghost use Prim.Native.Nat.{_+_, _≤_};
 ghost use lib.IntN.{pos, _+ℤ_, _-ℤ_};
+ghost use lib.Signed.{_≤ℤ_};
 ghost use mathlib.Core.Path.{_≡_};
 ghost use Rattle.std.specs.Numbers.{minZ};
+ghost use Rattle.terms.specs.Limits.{longest-horizon};
 ghost use Rattle.slot_book.specs.Small.{Small};
 
 // An interval: the slot where it ends, and its spare capacity. It begins where the one before it ends.
@@ -31,5 +34,27 @@ impl Span {
         ensures { λ r. ⌜ r ≡ minZ (pos 0) (self .spare +ℤ change) -ℤ minZ (pos 0) (self .spare) ⌝ }
     {
         self.changed(change).spare.min(0) - self.spare.min(0)
+    }
+
+    // What the interval takes from before its start: as much as its spare is below nought.
+    pub(crate) fn lacking(self) -> u32
+        requires { ⌜ Small (self .spare) ⌝ }
+        ensures { λ r. ⌜ pos r +ℤ minZ (pos 0) (self .spare) ≡ pos 0 ⌝ }
+    {
+        if self.spare < 0 {
+            (0 - self.spare) as u32
+        } else {
+            0
+        }
+    }
+
+    // What is used of the interval: what is due at its end, and what the intervals behind it take.
+    pub(crate) fn used(self, start: u32) -> u32
+        requires small { ⌜ Small (self .spare) ⌝ }
+        requires wide { ⌜ start ≤ self .end ⌝ ∗ ⌜ self .end ≤ longest-horizon ⌝ }
+        requires some { ⌜ (self .spare +ℤ pos start) ≤ℤ pos (self .end) ⌝ }
+        ensures { λ r. ⌜ self .spare +ℤ pos (start + r) ≡ pos (self .end) ⌝ }
+    {
+        ((self.end - start) as i32 - self.spare) as u32
     }
 }

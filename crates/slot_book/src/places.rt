@@ -1,0 +1,86 @@
+// Finding places in the slot-by-slot book, and working demands out from neighbouring spares.
+ghost use Prim.Native.Nat.{_≤_, _<_};
+ghost use lib.ListN.{drop};
+ghost use mathlib.Core.Path.{_≡_};
+ghost use Rattle.std.specs.Of.Vec.{vec-len};
+ghost use Rattle.capacity.specs.Intervals.{start-at, boundary-at};
+ghost use Rattle.capacity.specs.Noted.{first-end};
+ghost use Rattle.capacity.specs.Places.{Found};
+ghost use Rattle.capacity.specs.Shortage.{short};
+ghost use Rattle.slot_book.specs.Slot.{slot-boundaries};
+use crate::SlotBook;
+
+impl SlotBook {
+    // The horizon, which is the last boundary while any is left.
+    pub fn horizon(&self) -> u32
+        ensures { λ r. ⌜ r ≡ now (self .entry) .horizon ⌝ }
+    {
+        self.horizon
+    }
+
+    // The place of a deadline among the boundaries, or the place that it would have. A search by halves.
+    pub fn place(&self, deadline: u32) -> Result<usize, usize>
+        ensures { λ r. ⌜ Found (slot-boundaries (now (self .entry))) deadline r ⌝ }
+    {
+        let mut low = 0;
+        let mut high = self.spans.len();
+        while low < high {
+            let middle = low + (high - low) / 2;
+            let end = self.spans[middle].end;
+            if end == deadline {
+                return Ok(middle);
+            }
+            if end < deadline {
+                low = middle + 1;
+            } else {
+                high = middle;
+            }
+        }
+        Err(low)
+    }
+
+    // Where the interval at a place begins.
+    pub(crate) fn start(&self, place: usize) -> u32
+        requires { ⌜ place ≤ vec-len (now self .spans) ⌝ }
+        ensures { λ r. ⌜ r ≡ start-at (now (self .entry) .clock) (slot-boundaries (now (self .entry))) place ⌝ }
+    {
+        if place == 0 {
+            self.clock
+        } else {
+            self.spans[place - 1].end
+        }
+    }
+
+    // What the intervals from a place on take from before it; nothing behind the last.
+    pub(crate) fn lacking(&self, place: usize) -> u32
+        requires { ⌜ place ≤ vec-len (now self .spans) ⌝ }
+        ensures { λ r. ⌜ r ≡ short (start-at (now (self .entry) .clock) (slot-boundaries (now (self .entry))) place) (drop place (slot-boundaries (now (self .entry)))) ⌝ }
+    {
+        if place < self.spans.len() {
+            self.spans[place].lacking()
+        } else {
+            0
+        }
+    }
+
+    // Where the first interval ends; the clock where none is left.
+    pub fn first_end(&self) -> u32
+        ensures { λ r. ⌜ r ≡ first-end (now (self .entry) .clock) (slot-boundaries (now (self .entry))) ⌝ }
+    {
+        match self.spans.first() {
+            Some(span) => span.end,
+            None => self.clock,
+        }
+    }
+
+    // What is due at the boundary at a place, worked out from neighbouring spares; nothing where there is none.
+    pub fn due(&self, place: usize) -> u32
+        ensures { λ r. ⌜ r ≡ boundary-at (slot-boundaries (now (self .entry))) place .due ⌝ }
+    {
+        if place >= self.spans.len() {
+            return 0;
+        }
+        let start = self.start(place);
+        self.spans[place].used(start) - self.lacking(place + 1)
+    }
+}
