@@ -8,13 +8,13 @@ use mathlib.Core.Logic.{⊎-elim}
 use mathlib.Core.Path.{_≡_, refl, sym, ap, _∙_}
 use native.Mathlib.Omega.{arith}
 use Rattle.std.specs.Holes.{inserted}
-use Rattle.std.proofs.shelf.Tests.{cases-lt, cases-bool, eq-eqb, ne-eqb, lt-ltb, le-ltb, or-from}
+use Rattle.std.proofs.shelf.Tests.{cases-lt, cases-bool, eqb-true, eq-eqb, ne-eqb, lt-ltb, le-ltb, or-from}
 use Rattle.capacity.specs.declared.boundary.Boundary.{Boundary}
 use Rattle.capacity.specs.Calls.{is-boundary, due-at, with-due, with-boundary}
 use Rattle.capacity.specs.Slack.{rises}
 use Rattle.capacity.proofs.Keeps.{boundary-later}
 use Rattle.capacity.proofs.Naturals.{rises-first, rises-rest}
-use Rattle.capacity.specs.Intervals.{boundary-at}
+use Rattle.capacity.specs.Intervals.{boundary-at, start-at}
 use Rattle.capacity.specs.Places.{Stands, Lacks}
 
 -- every boundary at a place before i ends before d
@@ -54,13 +54,15 @@ pub lacks :
     (s : ℕ) (bs : List Boundary) (h d i : ℕ) → rises s bs h ≡ true → Before bs d i → i ≤ length bs →
     (i < length bs → d < boundary-at bs i .end) →
     Lacks bs d i
-lacks s [] h d zero r before le next = record { within = le; new = refl; puts = refl }
+lacks s [] h d zero r before le next = record { within = le; before = before; behind = next; new = refl; puts = refl }
 lacks s [] h d (suc i) r before le next = absurd (omega arith)
 lacks s (b ∷ bs) h d zero r before le next =
     let lt = next (omega arith) in
     let earlier = lt-ltb d (b .end) lt in
     record {
       within = le;
+      before = before;
+      behind = next;
       new =
           or-from (eqb (b .end) d) (is-boundary bs d) (ne-eqb (b .end) d (omega arith))
           (none-early (b .end) bs h d (rises-rest s b bs h r) (omega arith));
@@ -75,6 +77,8 @@ lacks s (b ∷ bs) h d (suc i) r before le next =
     in
     record {
       within = le;
+      before = before;
+      behind = next;
       new = or-from (eqb (b .end) d) (is-boundary bs d) (ne-eqb (b .end) d (omega arith)) (more .new);
       puts = rw later (ap (λ xs. b ∷ xs) (more .puts));
     }
@@ -96,6 +100,24 @@ ends-rise s [] h j k r jk lt = absurd (omega arith)
 ends-rise s (b ∷ bs) h j zero r jk lt = absurd (omega arith)
 ends-rise s (b ∷ bs) h zero (suc k) r jk lt = end-later (b .end) bs h k (rises-rest s b bs h r) (omega arith)
 ends-rise s (b ∷ bs) h (suc j) (suc k) r jk lt = ends-rise (b .end) bs h j k (rises-rest s b bs h r) (omega arith) (omega arith)
+
+-- a slot up to the last boundary has its place before some boundary, behind the start of that interval
+pub place-inside :
+    (s : ℕ) (bs : List Boundary) (h d i : ℕ) → rises s bs h ≡ true → s < d → d ≤ h → Before bs d i → i ≤ length bs →
+    i < length bs
+place-inside s [] h d i r sd dh before le = let e = eqb-true s h r in absurd (omega arith)
+place-inside s (b ∷ bs) h d zero r sd dh before le = omega arith
+place-inside s (b ∷ bs) h d (suc i) r sd dh before le =
+    let first = before 0 (omega arith) in
+    let more = place-inside (b .end) bs h d i (rises-rest s b bs h r) first dh (before-rest b bs d i before) (omega arith) in
+    omega arith
+
+pub start-before :
+    (s : ℕ) (bs : List Boundary) (d i : ℕ) → s < d → Before bs d i → i ≤ length bs → start-at s bs i < d
+start-before s bs d zero sd before le = sd
+start-before s [] d (suc i) sd before le = sd
+start-before s (b ∷ bs) d (suc i) sd before le =
+    start-before (b .end) bs d i (before 0 (omega arith)) (before-rest b bs d i before) (omega arith)
 
 -- a search by halves: everything before `low` ends before d, and everything from `high` on ends after it
 pub record Between (bs : List Boundary) (d low high : ℕ) : Type 0 where

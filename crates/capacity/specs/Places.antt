@@ -22,6 +22,8 @@ pub record Stands (bs : List Boundary) (d i : ℕ) : Type 0 where
 -- d is no boundary, and would be the one at place i.
 pub record Lacks (bs : List Boundary) (d i : ℕ) : Type 0 where
   pub within : i ≤ length bs
+  pub before : (k : ℕ) → k < i → boundary-at bs k .end < d
+  pub behind : i < length bs → d < boundary-at bs i .end
   pub new : is-boundary bs d ≡ false
   pub puts : with-boundary bs d ≡ inserted bs i (record { end = d; due = 0 })
 

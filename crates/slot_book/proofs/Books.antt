@@ -109,3 +109,6 @@ pub read-in :
 read-in b x k lt read =
     let P : Span → Type 0 = λ y. Read b y k in
     subst P (sym (getD-read (vec-items (b .spans)) k x lt read _)) (read-at b k lt)
+
+pub book-small : (b : SlotBook) → All-small (vec-items (b .spans))
+book-small b = all-small (b .clock) (vec-items (b .spans)) (b .horizon) (b .fair) (b .ordered) (b .bounded) (b .ranged)

@@ -3,3 +3,6 @@ pub mod Correspond
 mod Carrying
 mod Walking
 mod Books
+mod Splitting
+mod Passing
+mod Writes

@@ -1,4 +1,5 @@
 pub mod Small
 pub mod Carry
 pub mod Spans
+pub mod Split
 pub mod Slot

@@ -1,7 +1,9 @@
 -- Spares and demands determine each other. Intervals lie one behind the other: the first begins at s, each other one where
 -- the interval before it ends.
 use Prim.Native.Nat.{ℕ}
+use lib.Dec.{eqb}
 use lib.IntN.{ℤ, pos, _+ℤ_, _-ℤ_}
+use mathlib.Core.Bool.{cond}
 use mathlib.Core.List.{List, [], _∷_}
 use Rattle.std.specs.Numbers.{minZ}
 use Rattle.capacity.specs.declared.boundary.Boundary.{Boundary}
@@ -26,3 +28,8 @@ due-of s x xs = positive-part (((pos (x .end) -ℤ pos s) -ℤ x .spare) +ℤ mi
 abbrev pub dues-of : ℕ → List Span → List Boundary
 dues-of s [] = []
 dues-of s (x ∷ xs) = record { end = x .end; due = due-of s x xs } ∷ dues-of (x .end) xs
+
+-- The intervals without the first, if that ends at t.
+abbrev pub later-spans : ℕ → List Span → List Span
+later-spans t [] = []
+later-spans t (x ∷ xs) = cond (eqb (x .end) t) xs (x ∷ xs)

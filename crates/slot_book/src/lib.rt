@@ -1,4 +1,5 @@
 // The slot-by-slot book: it keeps the spares, and mends them at every run.
+mod changes;
 mod lines;
 mod places;
 mod slot;

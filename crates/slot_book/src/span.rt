@@ -7,6 +7,7 @@ ghost use mathlib.Core.Path.{_≡_};
 ghost use Rattle.std.specs.Numbers.{minZ};
 ghost use Rattle.terms.specs.Limits.{longest-horizon};
 ghost use Rattle.slot_book.specs.Small.{Small};
+ghost use Rattle.slot_book.specs.Split.{left-of, right-of};
 
 // An interval: the slot where it ends, and its spare capacity. It begins where the one before it ends.
 #[derive(Clone, Copy)]
@@ -56,5 +57,23 @@ impl Span {
         ensures { λ r. ⌜ self .spare +ℤ pos (start + r) ≡ pos (self .end) ⌝ }
     {
         ((self.end - start) as i32 - self.spare) as u32
+    }
+
+    // The two parts of an interval that is cut at a slot inside it.
+    pub(crate) fn split(self, start: u32, at: u32) -> (Span, Span)
+        requires small { ⌜ Small (self .spare) ⌝ }
+        requires inside { ⌜ start ≤ at ⌝ ∗ ⌜ at ≤ longest-horizon ⌝ }
+        ensures { λ r. ⌜ (r .0 ≡ left-of self start at) × (r .1 ≡ right-of self start at) ⌝ }
+    {
+        let width = (at - start) as i32;
+        let left = Span {
+            end: at,
+            spare: width.min(self.spare),
+        };
+        let right = Span {
+            end: self.end,
+            spare: self.spare - width,
+        };
+        (left, right)
     }
 }

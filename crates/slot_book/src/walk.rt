@@ -1,8 +1,9 @@
 // The walk back from an interval whose spare changes to those before it.
-ghost use Prim.Native.Nat.{_<_};
-ghost use lib.IntN.{pos};
+ghost use Prim.Native.Nat.{_≤_, _<_};
+ghost use lib.IntN.{pos, _-ℤ_};
 ghost use lib.ListN.{length};
 ghost use mathlib.Core.Path.{_≡_};
+ghost use Rattle.terms.specs.Limits.{longest-horizon};
 ghost use Rattle.slot_book.specs.Carry.{carried, Rose, All-small};
 ghost use Rattle.slot_book.specs.Small.{Small};
 use crate::span::Span;
@@ -26,4 +27,12 @@ pub(crate) fn carry(spans: &mut [Span], from: usize, mut change: i32) -> usize
         }
         place -= 1;
     }
+}
+
+// A demand as a change: so many slots less to spare.
+pub(crate) fn loss(demand: u32) -> i32
+    requires { ⌜ demand ≤ longest-horizon ⌝ }
+    ensures { λ r. ⌜ r ≡ pos 0 -ℤ pos demand ⌝ }
+{
+    0 - demand as i32
 }

@@ -38,9 +38,9 @@ returns c =
     let is = written (span-at (c .walk .spans) (c .walk .place)) (c .changed .result) _ (c .changed .ensures .end) (c .changed .ensures .spare) in
     let over : (handed-on (span-at (c .walk .spans) (c .walk .place) .spare) _ ≡ pos 0) ⊎ (c .walk .place ≡ 0) =
     elim (c .then-change-eq0 .came) [
-      then-change-eq0·by·then-change-eq0 w ↦
+      | then-change-eq0·by·then-change-eq0 w ↦
           inl (sym (c .carried-on-change .ensures) ∙ sym (toZ-ofZ w32 _ fits) ∙ ap (toZ w32) (w .if-change-eq0 .taken))
-    | then-change-eq0·by·else-change-eq0·then-place-eq0 w ↦ inr (w .if-place-eq0 .taken)
+      | then-change-eq0·by·else-change-eq0·then-place-eq0 w ↦ inr (w .if-place-eq0 .taken)
     ]
     in
     record {

@@ -1,0 +1,66 @@
+use Prim.Native.Nat.{_≤_, _<_}
+use lib.ListN.{length, set}
+use mathlib.Core.Path.{_≡_, ap}
+use borrow.Author.Needs.{needs}
+use native.Mathlib.Omega.{arith}
+use Rattle.std.specs.Holes.{inserted}
+use Rattle.std.specs.Of.Vec.{vec-items}
+use Rattle.capacity.specs.Calls.{with-boundaries}
+use Rattle.slot_book.specs.Slot.{slot-meaning}
+use Rattle.slot_book.proofs.Books.{read-in}
+use Rattle.slot_book.proofs.Writes.{inside, split-at}
+use Rattle.slot_book.proofs.slot.SlotBook.split.Needs as need
+
+pub start-start-requires : need.start-start-requires
+start-start-requires c κs =
+    let at = inside (c .args .self .now) (c .args .deadline) (c .args .place) (c .pre .new) (c .pre .coming) in
+    let within : c .args .place < length (vec-items (c .args .self .now .spans)) = at .place in
+    search needs
+
+pub index-requires : need.index-requires
+index-requires c κs =
+    let at = inside (c .args .self .now) (c .args .deadline) (c .args .place) (c .pre .new) (c .pre .coming) in
+    let within : c .args .place < length (vec-items (c .args .self .now .spans)) = at .place in
+    search needs
+
+pub split-requires : need.split-requires
+split-requires c κs =
+    let at = inside (c .args .self .now) (c .args .deadline) (c .args .place) (c .pre .new) (c .pre .coming) in
+    record {
+      small = read-in (c .args .self .now) (c .index .result .now) (c .args .place) (at .place) (c .index .ensures) .small;
+      inside = (omega (arith, at .start, c .start-start .ensures), at .early);
+    }
+
+pub index-mut-requires : need.index-mut-requires
+index-mut-requires c κs =
+    let at = inside (c .args .self .now) (c .args .deadline) (c .args .place) (c .pre .new) (c .pre .coming) in
+    let within : c .args .place < length (vec-items (c .args .self .now .spans)) = at .place in
+    search needs
+
+pub insert-requires : need.insert-requires
+insert-requires c κs =
+    let at = inside (c .args .self .now) (c .args .deadline) (c .args .place) (c .pre .new) (c .pre .coming) in
+    let within : c .args .place < length (vec-items (c .args .self .now .spans)) = at .place in
+    search needs
+
+pub ghost-self : need.ghost-self
+ghost-self c =
+    let book = c .args .self .now in
+    let items : vec-items (c .insert .last .self) ≡ inserted (set (vec-items (book .spans)) (c .args .place) (c .split .result .1)) (c .args .place) (c .split .result .0) = search needs in
+    let k =
+    split-at book (c .args .deadline) (c .args .place) (c .index .result .now) (c .split .result .0) (c .split .result .1) _ (c .pre .new)
+    (c .pre .coming) (c .index .ensures) (rw (c .start-start .ensures) at (c .split .ensures .0))
+    (rw (c .start-start .ensures) at (c .split .ensures .1)) items
+    in
+    (k .keeps .fair, (k .keeps .ordered, (k .keeps .bounded, (book .ranged, (search needs, (search needs, tt))))))
+
+pub returns : need.returns
+returns c =
+    let book = c .args .self .now in
+    let items : vec-items (c .insert .last .self) ≡ inserted (set (vec-items (book .spans)) (c .args .place) (c .split .result .1)) (c .args .place) (c .split .result .0) = search needs in
+    let k =
+    split-at book (c .args .deadline) (c .args .place) (c .index .result .now) (c .split .result .0) (c .split .result .1) _ (c .pre .new)
+    (c .pre .coming) (c .index .ensures) (rw (c .start-start .ensures) at (c .split .ensures .0))
+    (rw (c .start-start .ensures) at (c .split .ensures .1)) items
+    in
+    ap (with-boundaries (slot-meaning book)) (k .tells)
