@@ -9,6 +9,7 @@ use Rattle.std.specs.Holes.{removed}
 use Rattle.std.proofs.shelf.Tests.{eqb-true, lt-ltb, le-ltb}
 use Rattle.capacity.specs.declared.boundary.Boundary.{Boundary}
 use Rattle.capacity.specs.Calls.{later-than}
+use Rattle.capacity.specs.Noted.{first-end}
 use Rattle.capacity.specs.Slack.{rises}
 use Rattle.capacity.proofs.Naturals.{rises-first}
 
@@ -38,3 +39,8 @@ later-goes s (x ∷ bs) h b r read here some =
     let is = ap (λ y. y .end) read in
     let le : x .end ≤ s + 1 = omega arith in
     rw (le-ltb (s + 1) (x .end) le) refl
+
+-- while an interval is left, the start matters not to where it ends
+pub first-end-of : (s t : ℕ) (bs : List Boundary) → 0 < length bs → first-end s bs ≡ first-end t bs
+first-end-of s t [] some = absurd (omega arith)
+first-end-of s t (b ∷ bs) some = refl

@@ -10,7 +10,7 @@ use Rattle.std.specs.declared.option.Option.the-variants.{Some, None}
 use Rattle.std.proofs.shelf.Tests.{cases-bool, and-parts, eqb-true, ne-eqb, both-ways}
 use Rattle.terms.specs.Answers.{value, refuse}
 use Rattle.capacity.specs.declared.boundary.Boundary.{Boundary}
-use Rattle.capacity.specs.Calls.{is-boundary, due-at, is-due, forgive-says, forgive-leaves, run-says, run-leaves}
+use Rattle.capacity.specs.Calls.{is-boundary, due-at, is-due, forgive-says, forgive-leaves, run-says, run-leaves, passed}
 use Rattle.capacity.specs.Meaning.{Meaning}
 use Rattle.capacity.specs.Slack.{rises, Ordered}
 use Rattle.capacity.proofs.Naturals.{rises-first, rises-rest}
@@ -28,16 +28,25 @@ boundary-within s (b ∷ bs) h d r is =
     (λ (other : eqb (b .end) d ≡ false). boundary-within (b .end) bs h d rest (rw other at is))
     (cases-bool (eqb (b .end) d))
 
+-- where something is due, a slot is left
+slot-before : (m : Meaning) (d : ℕ) → Ordered m → is-due m d 1 ≡ true → eqb (m .clock) (m .horizon) ≡ false
+slot-before m d ordered due =
+    let is = and-parts (is-boundary (m .boundaries) d) (leb 1 (due-at (m .boundaries) d)) due .0 in
+    let after = boundary-later (m .clock) (m .boundaries) (m .horizon) d ordered is in
+    let within = boundary-within (m .clock) (m .boundaries) (m .horizon) d ordered is in
+    ne-eqb (m .clock) (m .horizon) (omega arith)
+
+pub run-taken :
+    (m : Meaning) (d : ℕ) → Ordered m → is-due m d 1 ≡ true →
+    (run-says m (Some d) ≡ value tt) × (run-leaves m (Some d) ≡ passed m (Some d))
+run-taken m d ordered due = let before = slot-before m d ordered due in (rw (due, before) refl, rw (due, before) refl)
+
 pub run-is-forgive-and-pass :
     (m : Meaning) (d : ℕ) → Ordered m → is-due m d 1 ≡ true →
     (run-says m (Some d) ≡ run-says (forgive-leaves m d 1) None)
     × (run-leaves m (Some d) ≡ run-leaves (forgive-leaves m d 1) None)
 run-is-forgive-and-pass m d ordered due =
-    let is = and-parts (is-boundary (m .boundaries) d) (leb 1 (due-at (m .boundaries) d)) due .0 in
-    let after = boundary-later (m .clock) (m .boundaries) (m .horizon) d ordered is in
-    let within = boundary-within (m .clock) (m .boundaries) (m .horizon) d ordered is in
-    let before = ne-eqb (m .clock) (m .horizon) (omega arith) in
-    (rw (due, before) refl, rw (due, before) refl)
+    let before = slot-before m d ordered due in (rw (due, before) refl, rw (due, before) refl)
 
 taken : (b : Bool) (x : Unit {0}) → value x ≡ refuse 6 (not b) (value tt) → b ≡ true
 taken true x says = refl

@@ -112,3 +112,6 @@ read-in b x k lt read =
 
 pub book-small : (b : SlotBook) → All-small (vec-items (b .spans))
 book-small b = all-small (b .clock) (vec-items (b .spans)) (b .horizon) (b .fair) (b .ordered) (b .bounded) (b .ranged)
+
+pub book-early : (b : SlotBook) (k : ℕ) → k < length (vec-items (b .spans)) → span-at (vec-items (b .spans)) k .end ≤ 1000000
+book-early b k lt = omega (arith, read-at b k lt .early, b .ranged)

@@ -6,3 +6,4 @@ mod Books
 mod Splitting
 mod Passing
 mod Writes
+mod Rooms

@@ -2,7 +2,7 @@
 use Prim.Native.Nat.{ℕ, zero, suc, _+_, _-_, _≤_, _<_}
 use lib.Dec.{leb, ltb}
 use lib.IntN.{ℤ, pos, negsuc, _+ℤ_, _-ℤ_}
-use lib.ListN.{length, getD, set}
+use lib.ListN.{length, getD, set, length-set}
 use mathlib.Core.Bool.{true, false, _&&_}
 use mathlib.Core.List.{List, [], _∷_}
 use mathlib.Core.Path.{_≡_, refl, sym, ap, subst, _∙_}
@@ -16,26 +16,30 @@ use Rattle.std.proofs.shelf.Lists.{refilled-is, getD-read}
 use Rattle.std.proofs.shelf.Signed.{ints}
 use Rattle.std.proofs.shelf.Tests.{and-parts, ltb-true, leb-true}
 use Rattle.capacity.specs.declared.boundary.Boundary.{Boundary}
-use Rattle.capacity.specs.Calls.{due-at, with-due, with-boundary, with-boundaries, to-come}
+use Rattle.capacity.specs.Calls.{due-at, with-due, with-boundary, with-boundaries, to-come, later-than}
 use Rattle.capacity.specs.Intervals.{boundary-at, start-at}
 use Rattle.capacity.specs.Meaning.{Meaning}
 use Rattle.capacity.specs.Places.{Stands, Lacks}
 use Rattle.capacity.specs.Shortage.{short}
 use Rattle.capacity.specs.Slack.{rises}
 use Rattle.capacity.specs.Spare.{headroom}
-use Rattle.capacity.proofs.Keeps.{boundary-later, rises-with-due, rises-with-boundary, short-with-less, short-with-more, short-with-boundary}
+use Rattle.capacity.proofs.Keeps.{boundary-later, rises-with-due, rises-with-boundary, short-with-less, short-with-more, short-with-boundary, slot-left, rises-later, short-later}
+use Rattle.capacity.proofs.Least.{rises-le}
 use Rattle.capacity.proofs.Naturals.{headroom-is-room}
+use Rattle.capacity.proofs.Passing.{some-left, first-end-of}
 use Rattle.capacity.proofs.Places.{place-inside, start-before}
+use Rattle.capacity.proofs.Slots.{boundary-within}
 use Rattle.capacity.proofs.Suffixes.{placed-at, room-from-le}
-use Rattle.slot_book.specs.Carry.{carried, span-at}
+use Rattle.slot_book.specs.Carry.{carried, span-at, with-more}
 use Rattle.slot_book.specs.Slot.{slot-meaning, slot-boundaries}
-use Rattle.slot_book.specs.Spans.{spans-of, dues-of}
+use Rattle.slot_book.specs.Spans.{spans-of, dues-of, later-spans}
 use Rattle.slot_book.specs.Split.{left-of, right-of}
 use Rattle.slot_book.specs.declared.slot.SlotBook.{SlotBook}
 use Rattle.slot_book.specs.declared.span.Span.{Span}
 use Rattle.slot_book.proofs.Books.{length-dues}
 use Rattle.slot_book.proofs.Carrying.{spans-changed}
 use Rattle.slot_book.proofs.Correspond.{Sound, sound, told}
+use Rattle.slot_book.proofs.Passing.{spans-narrower, spans-served, spans-later}
 use Rattle.slot_book.proofs.Splitting.{spans-split}
 
 -- new records of a book that tell these demands
@@ -164,3 +168,70 @@ split-at b d i x left right ys at coming read lefts rights is =
     tell (b .clock) (b .horizon) ys (with-boundary bs d) new
     (rises-with-boundary (b .clock) bs (b .horizon) d (b .ordered) (at .new) after within)
     (omega (arith, short-with-boundary (b .clock) bs d (omega arith), b .bounded))
+
+-- before the horizon a slot can pass
+pub slot-to-come : (b : SlotBook) → (b .clock ≡ b .horizon → ⊥) → b .clock < b .horizon
+slot-to-come b before = omega (arith, rises-le (b .clock) (slot-boundaries b) (b .horizon) (b .ordered), before)
+
+pub some-span : (b : SlotBook) → (b .clock ≡ b .horizon → ⊥) → 0 < length (vec-items (b .spans))
+some-span b before =
+    omega (
+      arith,
+      some-left (b .clock) (slot-boundaries b) (b .horizon) (b .ordered) before,
+      length-dues (b .clock) (vec-items (b .spans)),
+    )
+
+-- a slot passes, of which the demands bs are left: the records are those of the narrower first interval, without it if it ends
+passes :
+    (b : SlotBook) (bs : List Boundary) (ys zs : List Span) → b .clock < b .horizon → 0 < length bs →
+    rises (b .clock) bs (b .horizon) ≡ true →
+    short (b .clock) bs ≤ b .clock →
+    zs ≡ spans-of (b .clock + 1) bs →
+    ys ≡ later-spans (b .clock + 1) zs →
+    Tells (b .clock + 1) (b .horizon) ys (later-than (b .clock + 1) bs)
+passes b bs ys zs before some ordered bounded narrow is =
+    let t = b .clock + 1 in
+    let left = slot-left (b .clock) bs (b .horizon) ordered before in
+    let all = spans-later t bs (rw (first-end-of (b .clock) t bs some) at left) in
+    tell t (b .horizon) ys (later-than t bs) (is ∙ ap (later-spans t) narrow ∙ sym all)
+    (rises-later (b .clock) bs (b .horizon) ordered before) (short-later (b .clock) bs (b .horizon) ordered before bounded)
+
+pub passes-none :
+    (b : SlotBook) (x r : Span) (ys : List Span) → (b .clock ≡ b .horizon → ⊥) → x ≡ getD (vec-items (b .spans)) 0 x →
+    r ≡ with-more x (negsuc 0) →
+    ys ≡ later-spans (b .clock + 1) (set (vec-items (b .spans)) 0 r) →
+    Tells (b .clock + 1) (b .horizon) ys (later-than (b .clock + 1) (slot-boundaries b))
+passes-none b x r ys before read less is =
+    let bs = slot-boundaries b in
+    let xs = vec-items (b .spans) in
+    let some = some-span b before in
+    let some-bs : 0 < length bs = omega (arith, length-dues (b .clock) xs) in
+    let held : x ≡ span-at xs 0 = getD-read xs 0 x some read _ in
+    let narrow : set xs 0 r ≡ spans-of (b .clock + 1) bs =
+    ap (set xs 0) (less ∙ ap (λ y. with-more y (negsuc 0)) held)
+    ∙ ap (λ zs. set zs 0 (with-more (span-at zs 0) (negsuc 0))) (sym (b .fair))
+    ∙ sym (spans-narrower (b .clock) bs some-bs)
+    in
+    passes b bs ys (set xs 0 r) (slot-to-come b before) some-bs (b .ordered) (b .bounded) narrow is
+
+pub passes-first :
+    (b : SlotBook) (d : ℕ) (ys : List Span) → Stands (slot-boundaries b) d 0 → 1 ≤ due-at (slot-boundaries b) d →
+    ys ≡ later-spans (b .clock + 1) (vec-items (b .spans)) →
+    Tells (b .clock + 1) (b .horizon) ys (later-than (b .clock + 1) (with-due (slot-boundaries b) d (due-at (slot-boundaries b) d - 1)))
+passes-first b d ys at owed is =
+    let bs = slot-boundaries b in
+    let xs = vec-items (b .spans) in
+    let c = due-at bs d - 1 in
+    let after = boundary-later (b .clock) bs (b .horizon) d (b .ordered) (at .held) in
+    let within = boundary-within (b .clock) bs (b .horizon) d (b .ordered) (at .held) in
+    let due : 1 ≤ boundary-at bs 0 .due = omega (arith, at .owes) in
+    let same : with-due bs d c ≡ set bs 0 (record { end = boundary-at bs 0 .end; due = boundary-at bs 0 .due - 1 }) =
+    at .sets c ∙ rw (at .ends, at .owes) refl
+    in
+    let some : 0 < length (with-due bs d c) = rw (at .sets c) (simp length-set (at .within)) in
+    let narrow : xs ≡ spans-of (b .clock + 1) (with-due bs d c) =
+    sym (b .fair) ∙ sym (spans-served (b .clock) bs (at .within) due) ∙ ap (spans-of (b .clock + 1)) (sym same)
+    in
+    let less = short-with-less (b .clock) bs d c (omega arith) in
+    passes b (with-due bs d c) ys xs (omega arith) some (rises-with-due (b .clock) bs (b .horizon) d c (b .ordered))
+    (omega (arith, b .bounded)) narrow is

@@ -6,5 +6,5 @@ mod slot;
 mod span;
 mod walk;
 
+pub use lines::SlotLines;
 pub use slot::SlotBook;
-use span::Span;

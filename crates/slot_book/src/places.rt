@@ -1,14 +1,16 @@
 // Finding places in the slot-by-slot book, and working demands out from neighbouring spares.
 ghost use Prim.Native.Nat.{_≤_, _<_};
-ghost use lib.ListN.{drop};
+ghost use lib.ListN.{length, drop};
 ghost use mathlib.Core.Path.{_≡_};
 ghost use Rattle.std.specs.Of.Vec.{vec-len};
 ghost use Rattle.capacity.specs.Intervals.{start-at, boundary-at};
 ghost use Rattle.capacity.specs.Noted.{first-end};
 ghost use Rattle.capacity.specs.Places.{Found};
 ghost use Rattle.capacity.specs.Shortage.{short};
-ghost use Rattle.slot_book.specs.Slot.{slot-boundaries};
+ghost use Rattle.capacity.specs.Spare.{headroom};
+ghost use Rattle.slot_book.specs.Slot.{slot-meaning, slot-boundaries, Owing};
 use crate::SlotBook;
+use terms::Refusal;
 
 impl SlotBook {
     // The horizon, which is the last boundary while any is left.
@@ -16,6 +18,14 @@ impl SlotBook {
         ensures { λ r. ⌜ r ≡ now (self .entry) .horizon ⌝ }
     {
         self.horizon
+    }
+
+    // How many boundaries are to come.
+    pub(crate) fn len(&self) -> usize
+        ensures told { λ r. ⌜ r ≡ length (slot-boundaries (now (self .entry))) ⌝ }
+        ensures kept { λ r. ⌜ r ≡ vec-len (now (self .entry) .spans) ⌝ }
+    {
+        self.spans.len()
     }
 
     // The place of a deadline among the boundaries, or the place that it would have. A search by halves.
@@ -82,5 +92,35 @@ impl SlotBook {
         }
         let start = self.start(place);
         self.spans[place].used(start) - self.lacking(place + 1)
+    }
+
+    // The place of a boundary with at least so much due. Refused 6 where there is none.
+    pub(crate) fn owing_place(&self, deadline: u32, demand: u32) -> Result<usize, Refusal>
+        ensures { λ r. ⌜ Owing (slot-meaning (now (self .entry))) deadline demand r ⌝ }
+    {
+        let Ok(place) = self.place(deadline) else {
+            return Err(Refusal::NotHeld);
+        };
+        if demand > self.due(place) {
+            return Err(Refusal::NotHeld);
+        }
+        Ok(place)
+    }
+
+    // The headroom at a deadline behind the clock: what the intervals before it have free, and of its own what lies before it.
+    pub(crate) fn room(&self, deadline: u32) -> u32
+        requires { ⌜ now self .clock < deadline ⌝ }
+        ensures { λ r. ⌜ r ≡ headroom (slot-meaning (now (self .entry))) deadline ⌝ }
+    {
+        let mut start = self.clock;
+        let mut room = 0;
+        for span in self.spans.iter() {
+            if deadline <= span.end {
+                return room + span.free_before(deadline - start);
+            }
+            room += span.free();
+            start = span.end;
+        }
+        room
     }
 }

@@ -7,7 +7,7 @@ ghost use Rattle.capacity.specs.Shortage.{short};
 ghost use Rattle.capacity.specs.Slack.{rises};
 ghost use Rattle.terms.specs.Limits.{longest-horizon, most-boundaries};
 ghost use Rattle.slot_book.specs.Spans.{spans-of, dues-of};
-use crate::Span;
+use crate::span::Span;
 
 // A clock, a horizon, and the intervals to come with the spare capacity of each. What is due is worked out from the spares.
 #[derive(Drop)]

@@ -5,6 +5,7 @@ ghost use lib.IntN.{pos, _+ℤ_, _-ℤ_};
 ghost use lib.Signed.{_≤ℤ_};
 ghost use mathlib.Core.Path.{_≡_};
 ghost use Rattle.std.specs.Numbers.{minZ};
+ghost use Rattle.capacity.specs.Spare.{positive-part};
 ghost use Rattle.terms.specs.Limits.{longest-horizon};
 ghost use Rattle.slot_book.specs.Small.{Small};
 ghost use Rattle.slot_book.specs.Split.{left-of, right-of};
@@ -75,5 +76,20 @@ impl Span {
             spare: self.spare - width,
         };
         (left, right)
+    }
+
+    // What the interval has free.
+    pub(crate) fn free(self) -> u32
+        ensures { λ r. ⌜ r ≡ positive-part (self .spare) ⌝ }
+    {
+        self.spare.max(0) as u32
+    }
+
+    // What the interval has free before a slot that lies so far behind its start.
+    pub(crate) fn free_before(self, width: u32) -> u32
+        requires { ⌜ width ≤ longest-horizon ⌝ }
+        ensures { λ r. ⌜ r ≡ positive-part (minZ (pos width) (self .spare)) ⌝ }
+    {
+        (width as i32).min(self.spare).max(0) as u32
     }
 }
