@@ -7,3 +7,4 @@ pub mod Order
 pub mod Places
 pub mod Suffixes
 pub mod Passing
+pub mod Noted

@@ -11,7 +11,8 @@ use Rattle.capacity.specs.declared.boundary.Boundary.{Boundary}
 use Rattle.capacity.specs.Calls.{later-than}
 use Rattle.capacity.specs.Noted.{first-end}
 use Rattle.capacity.specs.Slack.{rises}
-use Rattle.capacity.proofs.Naturals.{rises-first}
+use Rattle.capacity.proofs.Least.{rises-le}
+use Rattle.capacity.proofs.Naturals.{rises-first, rises-rest}
 
 -- before the horizon some boundary is left
 pub some-left : (s : ℕ) (bs : List Boundary) (h : ℕ) → rises s bs h ≡ true → (s ≡ h → ⊥) → 0 < length bs
@@ -44,3 +45,14 @@ later-goes s (x ∷ bs) h b r read here some =
 pub first-end-of : (s t : ℕ) (bs : List Boundary) → 0 < length bs → first-end s bs ≡ first-end t bs
 first-end-of s t [] some = absurd (omega arith)
 first-end-of s t (b ∷ bs) some = refl
+
+pub within-first : (s t : ℕ) (bs : List Boundary) → t ≤ first-end s bs → t ≤ first-end t bs
+within-first s t [] le = omega arith
+within-first s t (b ∷ bs) le = le
+
+-- the first interval ends between its start and the horizon
+pub first-end-later : (s : ℕ) (bs : List Boundary) (h : ℕ) → rises s bs h ≡ true → (s ≤ first-end s bs) × (first-end s bs ≤ h)
+first-end-later s [] h r = let e = eqb-true s h r in (omega arith, omega arith)
+first-end-later s (b ∷ bs) h r =
+    let first = rises-first s b bs h r in
+    (omega arith, rises-le (b .end) bs h (rises-rest s b bs h r))

@@ -10,7 +10,7 @@ use Rattle.std.specs.declared.option.Option.the-variants.{Some, None}
 use Rattle.std.proofs.shelf.Tests.{cases-bool, and-parts, eqb-true, ne-eqb, both-ways}
 use Rattle.terms.specs.Answers.{value, refuse}
 use Rattle.capacity.specs.declared.boundary.Boundary.{Boundary}
-use Rattle.capacity.specs.Calls.{is-boundary, due-at, is-due, forgive-says, forgive-leaves, run-says, run-leaves, passed}
+use Rattle.capacity.specs.Calls.{is-boundary, due-at, is-due, with-due, with-boundaries, forgive-says, forgive-leaves, run-says, run-leaves, passed}
 use Rattle.capacity.specs.Meaning.{Meaning}
 use Rattle.capacity.specs.Slack.{rises, Ordered}
 use Rattle.capacity.proofs.Naturals.{rises-first, rises-rest}
@@ -35,6 +35,11 @@ slot-before m d ordered due =
     let after = boundary-later (m .clock) (m .boundaries) (m .horizon) d ordered is in
     let within = boundary-within (m .clock) (m .boundaries) (m .horizon) d ordered is in
     ne-eqb (m .clock) (m .horizon) (omega arith)
+
+pub forgive-taken :
+    (m : Meaning) (d c : ℕ) → is-due m d c ≡ true →
+    forgive-leaves m d c ≡ with-boundaries m (with-due (m .boundaries) d (due-at (m .boundaries) d - c))
+forgive-taken m d c due = rw due refl
 
 pub run-taken :
     (m : Meaning) (d : ℕ) → Ordered m → is-due m d 1 ≡ true →

@@ -30,24 +30,57 @@ pub record Placed (s : ℕ) (bs : List Boundary) (h k next : ℕ) (start end due
   pub spare : getD (spares s bs) k (pos 0) +ℤ pos (start + due + behind) ≡ pos end
   pub room-before : (d : ℕ) → room-from s bs k d ≡ min (d - start) (end - (start + due + behind)) + room-from s bs next d
 
+-- the parts of this that ask nothing of the order
+pub short-at :
+    (s : ℕ) (bs : List Boundary) (k : ℕ) → k < length bs →
+    short-from s bs k ≡ start-at s bs k + boundary-at bs k .due + short-from s bs (suc k) - boundary-at bs k .end
+short-at s [] k lt = absurd (omega arith)
+short-at s (b ∷ bs) zero lt = refl
+short-at s (b ∷ bs) (suc k) lt = short-at (b .end) bs k (omega arith)
+
+pub spare-at :
+    (s : ℕ) (bs : List Boundary) (k : ℕ) → k < length bs →
+    getD (spares s bs) k (pos 0) +ℤ pos (start-at s bs k + boundary-at bs k .due + short-from s bs (suc k))
+    ≡ pos (boundary-at bs k .end)
+spare-at s [] k lt = absurd (omega arith)
+spare-at s (b ∷ bs) zero lt = spare-is s b bs
+spare-at s (b ∷ bs) (suc k) lt = spare-at (b .end) bs k (omega arith)
+
+pub fits-at :
+    (s : ℕ) (bs : List Boundary) (k : ℕ) → short s bs ≤ s → k < length bs →
+    boundary-at bs k .due + short-from s bs (suc k) ≤ boundary-at bs k .end
+fits-at s [] k le lt = absurd (omega arith)
+fits-at s (b ∷ bs) zero le lt = omega arith
+fits-at s (b ∷ bs) (suc k) le lt = fits-at (b .end) bs k (omega arith) (omega arith)
+
+wide-at :
+    (s : ℕ) (bs : List Boundary) (h k : ℕ) → rises s bs h ≡ true → k < length bs →
+    (start-at s bs k < boundary-at bs k .end) × (boundary-at bs k .end ≤ h)
+wide-at s [] h k r lt = absurd (omega arith)
+wide-at s (b ∷ bs) h zero r lt = (rises-first s b bs h r, rises-le (b .end) bs h (rises-rest s b bs h r))
+wide-at s (b ∷ bs) h (suc k) r lt = wide-at (b .end) bs h k (rises-rest s b bs h r) (omega arith)
+
+room-at :
+    (s : ℕ) (bs : List Boundary) (k d : ℕ) → k < length bs →
+    room-from s bs k d
+    ≡ min (d - start-at s bs k)
+    (boundary-at bs k .end - (start-at s bs k + boundary-at bs k .due + short-from s bs (suc k)))
+    + room-from s bs (suc k) d
+room-at s [] k d lt = absurd (omega arith)
+room-at s (b ∷ bs) zero d lt = refl
+room-at s (b ∷ bs) (suc k) d lt = room-at (b .end) bs k d (omega arith)
+
 pub placed-at :
     (s : ℕ) (bs : List Boundary) (h k : ℕ) → rises s bs h ≡ true → short s bs ≤ s → k < length bs →
     Placed s bs h k (suc k) (start-at s bs k) (boundary-at bs k .end) (boundary-at bs k .due) (short-from s bs (suc k))
-placed-at s [] h k r le lt = absurd (omega arith)
-placed-at s (b ∷ bs) h zero r le lt =
-    let first = rises-first s b bs h r in
-    let last = rises-le (b .end) bs h (rises-rest s b bs h r) in
-    record
-    { wide = first; early = last; fits = omega arith; lacks = refl; spare = spare-is s b bs; room-before = λ d. refl }
-placed-at s (b ∷ bs) h (suc k) r le lt =
-    let more = placed-at (b .end) bs h k (rises-rest s b bs h r) (omega arith) (omega arith) in
+placed-at s bs h k r le lt =
     record {
-      wide = more .wide;
-      early = more .early;
-      fits = more .fits;
-      lacks = more .lacks;
-      spare = more .spare;
-      room-before = more .room-before;
+      wide = wide-at s bs h k r lt .0;
+      early = wide-at s bs h k r lt .1;
+      fits = fits-at s bs k le lt;
+      lacks = short-at s bs k lt;
+      spare = spare-at s bs k lt;
+      room-before = λ d. room-at s bs k d lt;
     }
 
 -- the same of the interval before a place, for numbers that are known to be its own

@@ -18,6 +18,7 @@ use Rattle.capacity.specs.Slack.{rises}
 use Rattle.capacity.specs.Spare.{spares}
 use Rattle.capacity.proofs.Suffixes.{Placed, placed-at, short-from}
 use Rattle.slot_book.specs.Carry.{span-at, All-small}
+use Rattle.slot_book.specs.Mend.{start-of}
 use Rattle.slot_book.specs.Slot.{slot-boundaries}
 use Rattle.slot_book.specs.Small.{Small}
 use Rattle.slot_book.specs.Spans.{spans-of, dues-of}
@@ -38,7 +39,13 @@ end-told s [] k = refl
 end-told s (x ∷ xs) zero = refl
 end-told s (x ∷ xs) (suc k) = end-told (x .end) xs k
 
-spare-of : (s : ℕ) (bs : List Boundary) (k : ℕ) → span-at (spans-of s bs) k .spare ≡ getD (spares s bs) k (pos 0)
+pub start-told : (s : ℕ) (xs : List Span) (k : ℕ) → k ≤ length xs → start-at s (dues-of s xs) k ≡ start-of s xs k
+start-told s xs zero le = refl
+start-told s [] (suc k) le = absurd (omega arith)
+start-told s (x ∷ xs) (suc zero) le = refl
+start-told s (x ∷ xs) (suc (suc k)) le = start-told (x .end) xs (suc k) (omega arith)
+
+pub spare-of : (s : ℕ) (bs : List Boundary) (k : ℕ) → span-at (spans-of s bs) k .spare ≡ getD (spares s bs) k (pos 0)
 spare-of s [] k = refl
 spare-of s (b ∷ bs) zero = refl
 spare-of s (b ∷ bs) (suc k) = spare-of (b .end) bs k
@@ -86,7 +93,7 @@ pub record Read (b : SlotBook) (x : Span) (k : ℕ) : Type 0 where
       + short-from (b .clock) (slot-boundaries b) (k + 1))
       ≡ pos (x .end)
 
-read-at : (b : SlotBook) (k : ℕ) → k < length (vec-items (b .spans)) → Read b (span-at (vec-items (b .spans)) k) k
+pub read-at : (b : SlotBook) (k : ℕ) → k < length (vec-items (b .spans)) → Read b (span-at (vec-items (b .spans)) k) k
 read-at b k lt =
     let xs = vec-items (b .spans) in
     let bs = slot-boundaries b in

@@ -7,3 +7,4 @@ mod Splitting
 mod Passing
 mod Writes
 mod Rooms
+mod Mending

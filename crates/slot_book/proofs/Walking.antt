@@ -66,10 +66,10 @@ handed-none a none = omega (arith, ints, clamps)
 pub written : (x r : Span) (z : ℤ) → r .end ≡ x .end → r .spare ≡ x .spare +ℤ z → r ≡ with-more x z
 written x r z ends spares = rw (← ends, ← spares) refl
 
-set-here : (xs : List Span) (k : ℕ) (r : Span) → k < length xs → span-at (set xs k r) k ≡ r
+pub set-here : (xs : List Span) (k : ℕ) (r : Span) → k < length xs → span-at (set xs k r) k ≡ r
 set-here xs k r lt = rw getD-set-same
 
-set-there : (xs : List Span) (k j : ℕ) (r : Span) → j ≢ k → span-at (set xs k r) j ≡ span-at xs j
+pub set-there : (xs : List Span) (k j : ℕ) (r : Span) → j ≢ k → span-at (set xs k r) j ≡ span-at xs j
 set-there xs k j r ne = rw getD-set-other
 
 goes-on :

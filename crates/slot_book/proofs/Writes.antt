@@ -19,24 +19,27 @@ use Rattle.capacity.specs.declared.boundary.Boundary.{Boundary}
 use Rattle.capacity.specs.Calls.{due-at, with-due, with-boundary, with-boundaries, to-come, later-than}
 use Rattle.capacity.specs.Intervals.{boundary-at, start-at}
 use Rattle.capacity.specs.Meaning.{Meaning}
+use Rattle.capacity.specs.Noted.{unserved, first-end}
 use Rattle.capacity.specs.Places.{Stands, Lacks}
 use Rattle.capacity.specs.Shortage.{short}
 use Rattle.capacity.specs.Slack.{rises}
 use Rattle.capacity.specs.Spare.{headroom}
-use Rattle.capacity.proofs.Keeps.{boundary-later, rises-with-due, rises-with-boundary, short-with-less, short-with-more, short-with-boundary, slot-left, rises-later, short-later}
+use Rattle.capacity.proofs.Keeps.{boundary-later, rises-with-due, rises-with-boundary, short-with-less, short-with-more, short-with-boundary, slot-left, rises-after, short-after, rises-later, short-later}
 use Rattle.capacity.proofs.Least.{rises-le}
 use Rattle.capacity.proofs.Naturals.{headroom-is-room}
-use Rattle.capacity.proofs.Passing.{some-left, first-end-of}
+use Rattle.capacity.proofs.Noted.{first-end-unserved, rises-unserved, short-unserved}
+use Rattle.capacity.proofs.Passing.{some-left, first-end-of, within-first}
 use Rattle.capacity.proofs.Places.{place-inside, start-before}
 use Rattle.capacity.proofs.Slots.{boundary-within}
 use Rattle.capacity.proofs.Suffixes.{placed-at, room-from-le}
 use Rattle.slot_book.specs.Carry.{carried, span-at, with-more}
+use Rattle.slot_book.specs.Mend.{Mendable}
 use Rattle.slot_book.specs.Slot.{slot-meaning, slot-boundaries}
 use Rattle.slot_book.specs.Spans.{spans-of, dues-of, later-spans}
 use Rattle.slot_book.specs.Split.{left-of, right-of}
 use Rattle.slot_book.specs.declared.slot.SlotBook.{SlotBook}
 use Rattle.slot_book.specs.declared.span.Span.{Span}
-use Rattle.slot_book.proofs.Books.{length-dues}
+use Rattle.slot_book.proofs.Books.{length-dues, start-told, read-at, book-early}
 use Rattle.slot_book.proofs.Carrying.{spans-changed}
 use Rattle.slot_book.proofs.Correspond.{Sound, sound, told}
 use Rattle.slot_book.proofs.Passing.{spans-narrower, spans-served, spans-later}
@@ -235,3 +238,40 @@ passes-first b d ys at owed is =
     let less = short-with-less (b .clock) bs d c (omega arith) in
     passes b (with-due bs d c) ys xs (omega arith) some (rises-with-due (b .clock) bs (b .horizon) d c (b .ordered))
     (omega (arith, b .bounded)) narrow is
+
+-- several slots of the first interval pass at once
+pub catches-up :
+    (b : SlotBook) (slots : ℕ) (ns : List ℕ) (ys zs : List Span) →
+    b .clock + slots ≤ first-end (b .clock) (slot-boundaries b) →
+    zs ≡ spans-of (b .clock + slots) (unserved (slot-boundaries b) ns) →
+    ys ≡ later-spans (b .clock + slots) zs →
+    Tells (b .clock + slots) (b .horizon) ys (later-than (b .clock + slots) (unserved (slot-boundaries b) ns))
+catches-up b slots ns ys zs le mended is =
+    let bs = slot-boundaries b in
+    let t = b .clock + slots in
+    let end = first-end-unserved (b .clock) bs ns in
+    let le′ : t ≤ first-end (b .clock) (unserved bs ns) = omega arith in
+    let all = spans-later t (unserved bs ns) (within-first (b .clock) t (unserved bs ns) le′) in
+    tell t (b .horizon) ys (later-than t (unserved bs ns)) (is ∙ ap (later-spans t) mended ∙ sym all)
+    (rises-after (b .clock) t (unserved bs ns) (b .horizon) (rises-unserved (b .clock) bs (b .horizon) ns (b .ordered)) (omega arith) le′)
+    (short-after (b .clock) t (unserved bs ns) (omega (arith, short-unserved (b .clock) bs ns, b .bounded)) (omega arith) le′)
+
+-- the records of a book can be mended
+pub mendable : (b : SlotBook) → Mendable (b .clock) (vec-items (b .spans))
+mendable b =
+    let xs = vec-items (b .spans) in
+    record {
+      fair = b .fair;
+      bounded = b .bounded;
+      wide = λ k lt. omega (arith, read-at b k lt .wide, start-told (b .clock) xs k (omega arith));
+      early = book-early b;
+    }
+
+-- the records after mending all of them
+pub mended-items :
+    (b : SlotBook) (slots : ℕ) (ns : List ℕ) (ws lent : List Span) → length ws ≡ b .spans .len →
+    ws ≡ spans-of (b .clock + slots) (unserved (dues-of (b .clock) lent) ns) →
+    lent ≡ vec-items (b .spans) →
+    refilled (b .spans) ws .items ≡ spans-of (b .clock + slots) (unserved (slot-boundaries b) ns)
+mended-items b slots ns ws lent whole after value =
+    refilled-is (b .spans) ws whole ∙ after ∙ ap (λ xs. spans-of (b .clock + slots) (unserved (dues-of (b .clock) xs) ns)) value

@@ -91,7 +91,7 @@ impl SlotBook {
 }
 
 // Drops the record of the first interval if that ends at a slot.
-fn drop_ended(spans: &mut Vec<Span>, slot: u32)
+pub(crate) fn drop_ended(spans: &mut Vec<Span>, slot: u32)
     ensures items { λ _. ⌜ vec-items (now (spans .exit)) ≡ later-spans slot (vec-items (now (spans .entry))) ⌝ }
     ensures len { λ _. ⌜ vec-len (now (spans .exit)) ≤ vec-len (now (spans .entry)) ⌝ }
     ensures capacity { λ _. ⌜ vec-cap (now (spans .exit)) ≡ vec-cap (now (spans .entry)) ⌝ }

@@ -2,6 +2,7 @@
 mod changes;
 mod lines;
 mod places;
+mod settle;
 mod slot;
 mod span;
 mod walk;

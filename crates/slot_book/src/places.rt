@@ -10,6 +10,7 @@ ghost use Rattle.capacity.specs.Shortage.{short};
 ghost use Rattle.capacity.specs.Spare.{headroom};
 ghost use Rattle.slot_book.specs.Slot.{slot-meaning, slot-boundaries, Owing};
 use crate::SlotBook;
+use crate::settle::start_of;
 use terms::Refusal;
 
 impl SlotBook {
@@ -54,11 +55,7 @@ impl SlotBook {
         requires { ⌜ place ≤ vec-len (now self .spans) ⌝ }
         ensures { λ r. ⌜ r ≡ start-at (now (self .entry) .clock) (slot-boundaries (now (self .entry))) place ⌝ }
     {
-        if place == 0 {
-            self.clock
-        } else {
-            self.spans[place - 1].end
-        }
+        start_of(&self.spans, self.clock, place)
     }
 
     // What the intervals from a place on take from before it; nothing behind the last.

@@ -50,6 +50,19 @@ impl Span {
         }
     }
 
+    // The interval between two slots of which so much is used.
+    pub(crate) fn using(start: u32, end: u32, used: u32) -> Span
+        requires wide { ⌜ start ≤ end ⌝ ∗ ⌜ end ≤ longest-horizon ⌝ }
+        requires fits { ⌜ used ≤ end ⌝ }
+        ensures end { λ r. ⌜ r .end ≡ end ⌝ }
+        ensures spare { λ r. ⌜ r .spare +ℤ pos (start + used) ≡ pos end ⌝ }
+    {
+        Span {
+            end,
+            spare: (end - start) as i32 - used as i32,
+        }
+    }
+
     // What is used of the interval: what is due at its end, and what the intervals behind it take.
     pub(crate) fn used(self, start: u32) -> u32
         requires small { ⌜ Small (self .spare) ⌝ }

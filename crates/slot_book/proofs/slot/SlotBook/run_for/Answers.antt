@@ -1,7 +1,7 @@
 use mathlib.Core.Path.{_≡_, refl, sym, ap, _∙_}
 use Rattle.std.specs.declared.option.Option.the-variants.{None}
 use Rattle.capacity.specs.Calls.{run-says, run-leaves, forgive-leaves}
-use Rattle.capacity.proofs.Slots.{run-taken, run-is-forgive-and-pass}
+use Rattle.capacity.proofs.Slots.{forgive-taken, run-taken, run-is-forgive-and-pass}
 use Rattle.slot_book.specs.Slot.{slot-meaning}
 use Rattle.slot_book.proofs.slot.SlotBook.run_for.Needs as need
 
@@ -17,7 +17,7 @@ returns c =
     let m = slot-meaning book in
     let due = c .in-Continue-place .ensures tt .1 in
     let law = run-is-forgive-and-pass m (c .args .deadline) (book .ordered) due in
-    let left : slot-meaning (c .forgive-at .last .self) ≡ forgive-leaves m (c .args .deadline) 1 = c .forgive-at .ensures ∙ rw due refl in
+    let left : slot-meaning (c .forgive-at .last .self) ≡ forgive-leaves m (c .args .deadline) 1 = c .forgive-at .ensures ∙ sym (forgive-taken m (c .args .deadline) 1 due) in
     record {
       answer = c .pass .ensures .answer ∙ ap (λ x. run-says x None) left ∙ sym (law .0);
       book = c .pass .ensures .book ∙ ap (λ x. run-leaves x None) left ∙ sym (law .1);
