@@ -7,6 +7,7 @@ use mathlib.Core.List.{List, [], _∷_}
 use mathlib.Core.Path.{_≡_, refl, sym, ap, subst, _∙_}
 use native.Mathlib.Numerals.{add-one}
 use native.Mathlib.Omega.{arith}
+use borrow.Author.Needs.{needs}
 use Rattle.std.specs.Numbers.{minZ}
 use Rattle.std.specs.Of.Vec.{vec-items}
 use Rattle.std.proofs.shelf.Lists.{getD-read}
@@ -17,6 +18,7 @@ use Rattle.capacity.specs.Shortage.{short}
 use Rattle.capacity.specs.Slack.{rises}
 use Rattle.capacity.specs.Spare.{spares}
 use Rattle.capacity.proofs.Suffixes.{Placed, placed-at, short-from}
+use Rattle.terms.specs.Limits.{most-boundaries}
 use Rattle.slot_book.specs.Carry.{span-at, All-small}
 use Rattle.slot_book.specs.Mend.{start-of}
 use Rattle.slot_book.specs.Slot.{slot-boundaries}
@@ -122,3 +124,10 @@ book-small b = all-small (b .clock) (vec-items (b .spans)) (b .horizon) (b .fair
 
 pub book-early : (b : SlotBook) (k : ℕ) → k < length (vec-items (b .spans)) → span-at (vec-items (b .spans)) k .end ≤ 1000000
 book-early b k lt = omega (arith, read-at b k lt .early, b .ranged)
+
+-- there are no more boundaries than a book may hold
+pub slot-few : (b : SlotBook) → length (slot-boundaries b) ≤ most-boundaries
+slot-few b =
+    let same = length-dues (b .clock) (vec-items (b .spans)) in
+    let few : length (vec-items (b .spans)) ≤ most-boundaries = search needs in
+    omega arith

@@ -57,3 +57,7 @@ sound s h bs xs is ordered bounded =
 
 pub told : (s : ℕ) (bs : List Boundary) (xs : List Span) → xs ≡ spans-of s bs → dues-of s xs ≡ bs
 told s bs xs is = ap (dues-of s) is ∙ dues-spans s bs
+
+-- a record is told by its end and its spare
+pub span-is : (r : Span) (e : ℕ) (z : ℤ) → r .end ≡ e → r .spare ≡ z → r ≡ record { end = e; spare = z }
+span-is r e z ends spares = rw (← ends, ← spares) refl

@@ -2,7 +2,7 @@ mod Fits
 pub mod Correspond
 mod Carrying
 mod Walking
-mod Books
+pub mod Books
 mod Splitting
 mod Passing
 mod Writes

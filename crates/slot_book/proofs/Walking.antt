@@ -15,6 +15,7 @@ use Rattle.slot_book.specs.Carry.{with-more, handed-on, carried, span-at, Rose
 use Rattle.slot_book.specs.Small.{Small}
 use Rattle.slot_book.specs.declared.span.Span.{Span}
 use Rattle.slot_book.proofs.Carrying.{step, stop, stop-first}
+use Rattle.slot_book.proofs.Correspond.{span-is}
 
 -- what is left to carry leads to the whole change; the spares up to `place` are as they were, and so are those behind `from`
 pub record Walking (old now : List Span) (from place : ℕ) (whole change : ℤ) : Type 0 where
@@ -62,9 +63,6 @@ handed-one a some =
 
 handed-none : (a : ℤ) → handed-on a (pos 1) ≡ pos 0 → pos 0 ≤ℤ a
 handed-none a none = omega (arith, ints, clamps)
-
-pub written : (x r : Span) (z : ℤ) → r .end ≡ x .end → r .spare ≡ x .spare +ℤ z → r ≡ with-more x z
-written x r z ends spares = rw (← ends, ← spares) refl
 
 pub set-here : (xs : List Span) (k : ℕ) (r : Span) → k < length xs → span-at (set xs k r) k ≡ r
 set-here xs k r lt = rw getD-set-same
@@ -126,7 +124,7 @@ pub again :
 again old now from zero whole change next r w ends spares is some later = absurd (later refl)
 again old now from (suc p) whole change next r w ends spares is some later =
     let e : suc p - 1 ≡ p = omega arith in
-    rw (e, is, written (span-at now (suc p)) r change ends spares)
+    rw (e, is, span-is r _ _ ends spares)
     (goes-on old now from p whole change w (λ none. some (is ∙ none)))
 
 -- the walk is over: this is what it leaves, and a raise by one has raised the spares from `from` back to `place`

@@ -143,23 +143,25 @@ inside b d i at coming =
     }
 
 pub split-at :
-    (b : SlotBook) (d i : ℕ) (x left right : Span) (ys : List Span) → Lacks (slot-boundaries b) d i →
+    (b : SlotBook) (d i s : ℕ) (x left right : Span) (ys : List Span) → Lacks (slot-boundaries b) d i →
     to-come (slot-meaning b) d ≡ true →
+    s ≡ start-at (b .clock) (slot-boundaries b) i →
     x ≡ getD (vec-items (b .spans)) i x →
-    left ≡ left-of x (start-at (b .clock) (slot-boundaries b) i) d →
-    right ≡ right-of x (start-at (b .clock) (slot-boundaries b) i) d →
+    left ≡ left-of x s d →
+    right ≡ right-of x s d →
     ys ≡ inserted (set (vec-items (b .spans)) i right) i left →
     Tells (b .clock) (b .horizon) ys (with-boundary (slot-boundaries b) d)
-split-at b d i x left right ys at coming read lefts rights is =
+split-at b d i s x left right ys at coming starts read lefts rights is =
     let bs = slot-boundaries b in
     let xs = vec-items (b .spans) in
-    let s = start-at (b .clock) bs i in
     let in-it = inside b d i at coming in
     let parts = and-parts (ltb (b .clock) d) (leb d (b .horizon)) coming in
     let after = ltb-true (b .clock) d (parts .0) in
     let within = leb-true d (b .horizon) (parts .1) in
     let held : x ≡ span-at xs i = getD-read xs i x (in-it .place) read _ in
-    let all = spans-split (b .clock) bs i d (omega (arith, in-it .place, length-dues (b .clock) xs)) (in-it .start) in
+    let all =
+    rw (sym starts) at (spans-split (b .clock) bs i d (omega (arith, in-it .place, length-dues (b .clock) xs)) (in-it .start))
+    in
     let new : ys ≡ spans-of (b .clock) (with-boundary bs d) =
     is
     ∙ ap (λ z. inserted (set xs i z) i left) (rights ∙ ap (λ y. right-of y s d) held)

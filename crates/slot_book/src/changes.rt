@@ -27,9 +27,9 @@ impl SlotBook {
         ensures { λ _. ⌜ slot-meaning (now (self .exit)) ≡ with-boundaries (slot-meaning (now (self .entry))) (with-boundary (slot-boundaries (now (self .entry))) deadline) ⌝ }
     {
         let start = self.start(place);
-        let (left, right) = self.spans[place].split(start, deadline);
-        self.spans[place] = right;
-        let _ = self.spans.insert(place, left);
+        let whole = self.spans[place];
+        self.spans[place] = whole.right_part(start, deadline);
+        let _ = self.spans.insert(place, whole.left_part(start, deadline));
     }
 
     // So much more is due at the boundary at a place.

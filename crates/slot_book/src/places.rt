@@ -16,7 +16,7 @@ use terms::Refusal;
 impl SlotBook {
     // The horizon, which is the last boundary while any is left.
     pub fn horizon(&self) -> u32
-        ensures { λ r. ⌜ r ≡ now (self .entry) .horizon ⌝ }
+        ensures { λ r. ⌜ r ≡ slot-meaning (now (self .entry)) .horizon ⌝ }
     {
         self.horizon
     }
@@ -31,7 +31,7 @@ impl SlotBook {
 
     // The place of a deadline among the boundaries, or the place that it would have. A search by halves.
     pub fn place(&self, deadline: u32) -> Result<usize, usize>
-        ensures { λ r. ⌜ Found (slot-boundaries (now (self .entry))) deadline r ⌝ }
+        ensures { λ r. ⌜ Found (slot-meaning (now (self .entry)) .boundaries) deadline r ⌝ }
     {
         let mut low = 0;
         let mut high = self.spans.len();
@@ -72,7 +72,7 @@ impl SlotBook {
 
     // Where the first interval ends; the clock where none is left.
     pub fn first_end(&self) -> u32
-        ensures { λ r. ⌜ r ≡ first-end (now (self .entry) .clock) (slot-boundaries (now (self .entry))) ⌝ }
+        ensures { λ r. ⌜ r ≡ first-end (slot-meaning (now (self .entry)) .clock) (slot-meaning (now (self .entry)) .boundaries) ⌝ }
     {
         match self.spans.first() {
             Some(span) => span.end,
@@ -82,7 +82,7 @@ impl SlotBook {
 
     // What is due at the boundary at a place, worked out from neighbouring spares; nothing where there is none.
     pub fn due(&self, place: usize) -> u32
-        ensures { λ r. ⌜ r ≡ boundary-at (slot-boundaries (now (self .entry))) place .due ⌝ }
+        ensures { λ r. ⌜ r ≡ boundary-at (slot-meaning (now (self .entry)) .boundaries) place .due ⌝ }
     {
         if place >= self.spans.len() {
             return 0;

@@ -8,7 +8,6 @@ ghost use Rattle.std.specs.Numbers.{minZ};
 ghost use Rattle.capacity.specs.Spare.{positive-part};
 ghost use Rattle.terms.specs.Limits.{longest-horizon};
 ghost use Rattle.slot_book.specs.Small.{Small};
-ghost use Rattle.slot_book.specs.Split.{left-of, right-of};
 
 // An interval: the slot where it ends, and its spare capacity. It begins where the one before it ends.
 #[derive(Clone, Copy)]
@@ -30,12 +29,19 @@ impl Span {
         }
     }
 
-    // By how much the interval before this one gains by the change: only what is below nought is carried on.
+    // What counts of the spare for the intervals before this one: only what is below nought.
+    fn below_nought(self) -> i32
+        ensures { λ r. ⌜ r ≡ minZ (pos 0) (self .spare) ⌝ }
+    {
+        self.spare.min(0)
+    }
+
+    // By how much the interval before this one gains by a change of the spare.
     pub(crate) fn carried_on(self, change: i32) -> i32
         requires { ⌜ Small (self .spare) ⌝ ∗ ⌜ Small change ⌝ }
         ensures { λ r. ⌜ r ≡ minZ (pos 0) (self .spare +ℤ change) -ℤ minZ (pos 0) (self .spare) ⌝ }
     {
-        self.changed(change).spare.min(0) - self.spare.min(0)
+        self.changed(change).below_nought() - self.below_nought()
     }
 
     // What the interval takes from before its start: as much as its spare is below nought.
@@ -73,22 +79,31 @@ impl Span {
         ((self.end - start) as i32 - self.spare) as u32
     }
 
-    // The two parts of an interval that is cut at a slot inside it.
-    pub(crate) fn split(self, start: u32, at: u32) -> (Span, Span)
-        requires small { ⌜ Small (self .spare) ⌝ }
-        requires inside { ⌜ start ≤ at ⌝ ∗ ⌜ at ≤ longest-horizon ⌝ }
-        ensures { λ r. ⌜ (r .0 ≡ left-of self start at) × (r .1 ≡ right-of self start at) ⌝ }
+    // The part before a slot inside: it can spare what the whole could, and no more than its width.
+    pub(crate) fn left_part(self, start: u32, at: u32) -> Span
+        requires { ⌜ start ≤ at ⌝ ∗ ⌜ at ≤ longest-horizon ⌝ }
+        ensures end { λ r. ⌜ r .end ≡ at ⌝ }
+        ensures spare { λ r. ⌜ r .spare ≡ minZ (pos at -ℤ pos start) (self .spare) ⌝ }
     {
         let width = (at - start) as i32;
-        let left = Span {
+        Span {
             end: at,
             spare: width.min(self.spare),
-        };
-        let right = Span {
+        }
+    }
+
+    // The part behind a slot inside: it has to do without the width of the other.
+    pub(crate) fn right_part(self, start: u32, at: u32) -> Span
+        requires small { ⌜ Small (self .spare) ⌝ }
+        requires inside { ⌜ start ≤ at ⌝ ∗ ⌜ at ≤ longest-horizon ⌝ }
+        ensures end { λ r. ⌜ r .end ≡ self .end ⌝ }
+        ensures spare { λ r. ⌜ r .spare ≡ self .spare -ℤ (pos at -ℤ pos start) ⌝ }
+    {
+        let width = (at - start) as i32;
+        Span {
             end: self.end,
             spare: self.spare - width,
-        };
-        (left, right)
+        }
     }
 
     // What the interval has free.

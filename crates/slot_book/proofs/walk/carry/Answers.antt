@@ -8,7 +8,8 @@ use native.Mathlib.Omega.{arith}
 use Rattle.std.proofs.shelf.Signed.{toZ-ofZ}
 use Rattle.slot_book.specs.Carry.{span-at, handed-on, with-more}
 use Rattle.slot_book.specs.Small.{Small}
-use Rattle.slot_book.proofs.Walking.{begins, again, standing-small, written, ends-after, ends-raise}
+use Rattle.slot_book.proofs.Correspond.{span-is}
+use Rattle.slot_book.proofs.Walking.{begins, again, standing-small, ends-after, ends-raise}
 use Rattle.slot_book.proofs.walk.carry.Needs as need
 use Rattle.slot_book.proofs.walk.carry.Needs.{then-change-eq0·by·then-change-eq0, then-change-eq0·by·else-change-eq0·then-place-eq0}
 
@@ -35,7 +36,7 @@ pub returns : need.returns
 returns c =
     let fits : SFits w32 (c .carried-on-change .result) = search needs in
     let whole = toZ-ofZ w32 (c .args .change) (c .fits .change) in
-    let is = written (span-at (c .walk .spans) (c .walk .place)) (c .changed .result) _ (c .changed .ensures .end) (c .changed .ensures .spare) in
+    let is = span-is (c .changed .result) _ _ (c .changed .ensures .end) (c .changed .ensures .spare) in
     let over : (handed-on (span-at (c .walk .spans) (c .walk .place) .spare) _ ≡ pos 0) ⊎ (c .walk .place ≡ 0) =
     elim (c .then-change-eq0 .came) [
       | then-change-eq0·by·then-change-eq0 w ↦

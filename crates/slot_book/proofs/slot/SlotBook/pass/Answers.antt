@@ -8,7 +8,7 @@ use Rattle.std.specs.Of.Vec.{vec-items}
 use Rattle.std.proofs.shelf.Tests.{eq-eqb, ne-eqb}
 use Rattle.slot_book.specs.Spans.{later-spans}
 use Rattle.slot_book.proofs.Books.{read-in}
-use Rattle.slot_book.proofs.Walking.{written}
+use Rattle.slot_book.proofs.Correspond.{span-is}
 use Rattle.slot_book.proofs.Writes.{slot-to-come, some-span, passes-none}
 use Rattle.slot_book.proofs.slot.SlotBook.pass.Needs as need
 
@@ -41,14 +41,14 @@ index-mut-requires c κs =
 pub ghost-self : need.ghost-self
 ghost-self c =
     let book = c .args .self .now in
-    let less = written (c .index .result .now) (c .changed .result) (negsuc 0) (c .changed .ensures .end) (c .changed .ensures .spare) in
+    let less = span-is (c .changed .result) _ _ (c .changed .ensures .end) (c .changed .ensures .spare) in
     let k = passes-none book (c .index .result .now) (c .changed .result) _ (c .if-self .left) (c .index .ensures) less (c .drop-ended .ensures .items) in
     (k .keeps .fair, (k .keeps .ordered, (k .keeps .bounded, (book .ranged, (search needs, (search needs, tt))))))
 
 pub returns : need.returns
 returns c =
     let book = c .args .self .now in
-    let less = written (c .index .result .now) (c .changed .result) (negsuc 0) (c .changed .ensures .end) (c .changed .ensures .spare) in
+    let less = span-is (c .changed .result) _ _ (c .changed .ensures .end) (c .changed .ensures .spare) in
     let k = passes-none book (c .index .result .now) (c .changed .result) _ (c .if-self .left) (c .index .ensures) less (c .drop-ended .ensures .items) in
     let off = ne-eqb (book .clock) (book .horizon) (c .if-self .left) in
     record {

@@ -1,0 +1,6 @@
+mod Facts
+mod Served
+mod Unserved
+mod Catching
+mod Keeping
+mod Held
