@@ -7,9 +7,12 @@ use mathlib.Core.Path.{_≡_}
 use Rattle.std.specs.Holes.{inserted}
 use Rattle.std.specs.declared.result.Result.{Result}
 use Rattle.std.specs.declared.result.Result.the-variants.{Ok, Err}
+use Rattle.terms.specs.Answers.{number-of}
+use Rattle.terms.specs.declared.refusal.Refusal.{Refusal}
 use Rattle.capacity.specs.declared.boundary.Boundary.{Boundary}
-use Rattle.capacity.specs.Calls.{is-boundary, due-at, with-due, with-boundary}
+use Rattle.capacity.specs.Calls.{is-boundary, due-at, is-due, with-due, with-boundary}
 use Rattle.capacity.specs.Intervals.{boundary-at}
+use Rattle.capacity.specs.Meaning.{Meaning}
 
 -- d is the boundary at place i.
 pub record Stands (bs : List Boundary) (d i : ℕ) : Type 0 where
@@ -31,3 +34,8 @@ pub record Lacks (bs : List Boundary) (d i : ℕ) : Type 0 where
 abbrev pub Found : List Boundary → ℕ → Result ℕ ℕ → Type 0
 Found bs d (Ok i) = Stands bs d i
 Found bs d (Err i) = Lacks bs d i
+
+-- What a search for a boundary with at least c due at d answers: its place, or refusal 6.
+abbrev pub Owing : Meaning → ℕ → ℕ → Result ℕ Refusal → Type 0
+Owing m d c (Ok i) = Stands (m .boundaries) d i × (is-due m d c ≡ true)
+Owing m d c (Err e) = (number-of e ≡ 6) × (is-due m d c ≡ false)

@@ -1,3 +1,2 @@
 pub mod Noting
 pub mod Deferred
-pub mod Owners

@@ -3,11 +3,11 @@ ghost use Prim.Native.Nat.{_+_, _<_};
 ghost use mathlib.Core.Path.{_≡_};
 ghost use Rattle.capacity.specs.Intervals.{boundary-at};
 ghost use Rattle.capacity.specs.Noted.{caught-up};
+ghost use Rattle.capacity.specs.Places.{Owing};
 ghost use Rattle.slot_book.specs.Slot.{slot-meaning};
 ghost use Rattle.terms.specs.Limits.{most-boundaries};
 ghost use Rattle.deferred_book.specs.Deferred.{served-by, deferred-meaning};
 ghost use Rattle.deferred_book.specs.Noting.{one-more, Below};
-ghost use Rattle.deferred_book.specs.Owners.{Owned};
 use crate::DeferredBook;
 use crate::settling::settle;
 use capacity::Book;
@@ -27,7 +27,7 @@ impl DeferredBook {
 
     // The place of a deadline at which something is due now. Refused 6 if nothing is.
     pub(crate) fn owner(&self, deadline: u32) -> Result<usize, Refusal>
-        ensures { λ r. ⌜ Owned (deferred-meaning (now (self .entry))) deadline r ⌝ }
+        ensures { λ r. ⌜ Owing (deferred-meaning (now (self .entry))) deadline 1 r ⌝ }
     {
         let Ok(place) = self.settled.place(deadline) else {
             return Err(Refusal::NotHeld);

@@ -20,7 +20,7 @@ pass-requires c κs =
 pub pass-requires-in-Some : need.pass-requires-in-Some
 pass-requires-in-Some c κs =
     let book = c .args .self .now in
-    let at = c .in-Continue-place .ensures tt .1 in
+    let at = c .in-Continue-place .ensures tt .0 in
     record {
       before = before-horizon book (c .in-Some .deadline) (c .in-Continue-place .place) at;
       place = place-below book (c .in-Some .deadline) (c .in-Continue-place .place) at;
@@ -44,7 +44,7 @@ returns-in-Continue-place c =
     let owned = c .in-Continue-place .ensures tt in
     let done =
     run-passed (deferred-meaning book) (deferred-meaning (c .pass-in-Some .last .self)) (Some d) (c .args .owner) (c .in-Some .is)
-    (not-from-true (is-due (deferred-meaning book) d 1) (owned .0)) (before-horizon book d place (owned .1))
-    (passed-for-deadline book _ d place (owned .1) (c .pass-in-Some .ensures))
+    (not-from-true (is-due (deferred-meaning book) d 1) (owned .1)) (before-horizon book d place (owned .0))
+    (passed-for-deadline book _ d place (owned .0) (c .pass-in-Some .ensures))
     in
     record { answer = done .0; book = done .1 }
