@@ -1,20 +1,19 @@
 -- What every line of a book keeps: the boundaries rise to the horizon, and the intervals take no more from before the clock than
 -- the slots that have passed.
-use Prim.Native.Nat.{ℕ, _+_, _-_, _≤_, _<_, min}
-use lib.Dec.{leb, ltb, eqb}
-use mathlib.Core.Bool.{Bool, true, false, cond, _&&_, _||_}
+use Prim.Native.Nat.{ℕ, _+_, _-_, _≤_, _<_}
+use lib.Dec.{ltb, eqb}
+use mathlib.Core.Bool.{true, false}
 use mathlib.Core.List.{List, [], _∷_}
 use mathlib.Core.Logic.{⊎-elim}
-use mathlib.Core.Path.{_≡_, refl, sym, ap, _∙_}
+use mathlib.Core.Path.{_≡_, refl}
 use native.Mathlib.Omega.{arith}
-use Rattle.std.proofs.shelf.Tests.{cases-lt, cases-bool, and-from, eqb-true, eqb-false, lt-ltb, le-ltb, eq-eqb, ne-eqb, both-ways, or-parts}
+use Rattle.std.proofs.shelf.Tests.{cases-lt, cases-bool, and-from, eqb-true, eqb-false, lt-ltb, le-ltb, both-ways, or-parts}
 use Rattle.capacity.specs.declared.boundary.Boundary.{Boundary}
 use Rattle.capacity.specs.Calls.{is-boundary, due-at, with-due, with-boundary, later-than}
 use Rattle.capacity.specs.Noted.{first-end}
 use Rattle.capacity.specs.Shortage.{short}
 use Rattle.capacity.specs.Slack.{rises}
 use Rattle.capacity.proofs.Naturals.{room, rises-first, rises-rest, room-none}
-use Rattle.capacity.proofs.Least.{rises-le}
 
 pub rises-cons :
     (s : ℕ) (b : Boundary) (bs : List Boundary) (h : ℕ) → s < b .end → rises (b .end) bs h ≡ true → rises s (b ∷ bs) h ≡ true

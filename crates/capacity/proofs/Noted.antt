@@ -1,9 +1,9 @@
 -- Boundaries that have been given slots: the ends stay, and less is due.
-use Prim.Native.Nat.{ℕ, zero, suc, _+_, _-_, _≤_, _<_}
+use Prim.Native.Nat.{ℕ, zero, suc, _-_, _≤_}
 use lib.ListN.{length, getD}
 use mathlib.Core.Bool.{true}
 use mathlib.Core.List.{List, [], _∷_}
-use mathlib.Core.Path.{_≡_, refl, sym, ap, _∙_}
+use mathlib.Core.Path.{_≡_, refl, ap}
 use native.Mathlib.Omega.{arith}
 use Rattle.capacity.specs.declared.boundary.Boundary.{Boundary}
 use Rattle.capacity.specs.Intervals.{boundary-at, start-at}

@@ -1,16 +1,15 @@
 -- Places among boundaries that rise.
-use Prim.Native.Nat.{ℕ, zero, suc, _+_, _-_, _≤_, _<_, min}
-use lib.Dec.{ltb, eqb}
-use lib.ListN.{length, getD, set, drop}
-use mathlib.Core.Bool.{true, false, cond, _||_}
+use Prim.Native.Nat.{ℕ, zero, suc, _+_, _-_, _≤_, _<_}
+use lib.Dec.{eqb}
+use lib.ListN.{length}
+use mathlib.Core.Bool.{true, false}
 use mathlib.Core.List.{List, [], _∷_}
 use mathlib.Core.Logic.{⊎-elim}
-use mathlib.Core.Path.{_≡_, refl, sym, ap, _∙_}
+use mathlib.Core.Path.{_≡_, refl, ap}
 use native.Mathlib.Omega.{arith}
-use Rattle.std.specs.Holes.{inserted}
 use Rattle.std.proofs.shelf.Tests.{cases-lt, cases-bool, eqb-true, eq-eqb, ne-eqb, lt-ltb, le-ltb, or-from}
 use Rattle.capacity.specs.declared.boundary.Boundary.{Boundary}
-use Rattle.capacity.specs.Calls.{is-boundary, due-at, with-due, with-boundary}
+use Rattle.capacity.specs.Calls.{is-boundary}
 use Rattle.capacity.specs.Slack.{rises}
 use Rattle.capacity.proofs.Keeps.{boundary-later}
 use Rattle.capacity.proofs.Naturals.{rises-first, rises-rest}

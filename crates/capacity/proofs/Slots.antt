@@ -1,7 +1,7 @@
 -- A slot for a deadline is one slot forgiven there, and then a slot for nobody.
-use Prim.Native.Nat.{ℕ, _+_, _-_, _≤_, _<_}
-use lib.Dec.{leb, ltb, eqb}
-use mathlib.Core.Bool.{Bool, true, false, not, _&&_, _||_}
+use Prim.Native.Nat.{ℕ, _-_, _≤_}
+use lib.Dec.{leb, eqb}
+use mathlib.Core.Bool.{Bool, true, false, not}
 use mathlib.Core.List.{List, [], _∷_}
 use mathlib.Core.Logic.{⊎-elim}
 use mathlib.Core.Path.{_≡_, refl}
@@ -13,7 +13,7 @@ use Rattle.capacity.specs.declared.boundary.Boundary.{Boundary}
 use Rattle.capacity.specs.Calls.{is-boundary, due-at, is-due, with-due, with-boundaries, forgive-says, forgive-leaves, run-says, run-leaves, passed}
 use Rattle.capacity.specs.Meaning.{Meaning}
 use Rattle.capacity.specs.Slack.{rises, Ordered}
-use Rattle.capacity.proofs.Naturals.{rises-first, rises-rest}
+use Rattle.capacity.proofs.Naturals.{rises-rest}
 use Rattle.capacity.proofs.Least.{rises-le}
 use Rattle.capacity.proofs.Keeps.{boundary-later}
 

@@ -1,6 +1,6 @@
 -- What is known of the records of a book, by their places.
 use Prim.Native.Nat.{ℕ, zero, suc, _+_, _-_, _≤_, _<_}
-use lib.IntN.{ℤ, pos, _+ℤ_, _-ℤ_}
+use lib.IntN.{ℤ, pos, _+ℤ_}
 use lib.ListN.{length, getD}
 use mathlib.Core.Bool.{true}
 use mathlib.Core.List.{List, [], _∷_}
@@ -8,16 +8,15 @@ use mathlib.Core.Path.{_≡_, refl, sym, ap, subst, _∙_}
 use native.Mathlib.Numerals.{add-one}
 use native.Mathlib.Omega.{arith}
 use borrow.Author.Needs.{needs}
-use Rattle.std.specs.Numbers.{minZ}
 use Rattle.std.specs.Of.Vec.{vec-items}
 use Rattle.std.proofs.shelf.Lists.{getD-read}
-use Rattle.std.proofs.shelf.Signed.{ints, clamps}
+use Rattle.std.proofs.shelf.Signed.{ints}
 use Rattle.capacity.specs.declared.boundary.Boundary.{Boundary}
 use Rattle.capacity.specs.Intervals.{boundary-at, start-at}
 use Rattle.capacity.specs.Shortage.{short}
 use Rattle.capacity.specs.Slack.{rises}
 use Rattle.capacity.specs.Spare.{spares}
-use Rattle.capacity.proofs.Suffixes.{Placed, placed-at, short-from}
+use Rattle.capacity.proofs.Suffixes.{placed-at, short-from}
 use Rattle.terms.specs.Limits.{most-boundaries}
 use Rattle.slot_book.specs.Carry.{span-at, All-small}
 use Rattle.slot_book.specs.Mend.{start-of}

@@ -1,12 +1,10 @@
 -- One pass from the last interval to the first mends the spares for several slots.
 use Prim.Native.Nat.{ℕ, zero, suc, _+_, _-_, _≤_, _<_}
-use lib.IntN.{ℤ, pos, _+ℤ_, _-ℤ_}
+use lib.IntN.{ℤ, pos, _+ℤ_}
 use lib.ListN.{length, getD, set, length-set}
-use lib.Seq.{getD-set-same, getD-set-other}
-use lib.Signed.{_≤ℤ_}
 use mathlib.Core.List.{List, [], _∷_}
-use mathlib.Core.Logic.{⊎-elim, _≢_}
-use mathlib.Core.Path.{_≡_, refl, sym, ap, subst, _∙_}
+use mathlib.Core.Logic.{⊎-elim}
+use mathlib.Core.Path.{_≡_, refl, sym, ap, _∙_}
 use native.Mathlib.Omega.{arith}
 use Rattle.std.specs.Numbers.{minZ}
 use Rattle.std.proofs.shelf.Lists.{ext-getD}
@@ -15,7 +13,6 @@ use Rattle.std.proofs.shelf.Tests.{cases-lt}
 use Rattle.capacity.specs.declared.boundary.Boundary.{Boundary}
 use Rattle.capacity.specs.Intervals.{boundary-at, start-at}
 use Rattle.capacity.specs.Noted.{unserved, first-end}
-use Rattle.capacity.specs.Shortage.{short}
 use Rattle.capacity.specs.Spare.{spares}
 use Rattle.capacity.proofs.Noted.{length-unserved, end-unserved, due-unserved, start-unserved}
 use Rattle.capacity.proofs.Suffixes.{short-from, short-at, short-all, spare-at, fits-at}

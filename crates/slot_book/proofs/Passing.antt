@@ -1,14 +1,12 @@
 -- A slot that passes: the first interval is narrower by it, and goes when it ends.
-use Prim.Native.Nat.{ℕ, zero, suc, _+_, _-_, _≤_, _<_}
-use lib.Dec.{ltb, eqb}
-use lib.IntN.{ℤ, pos, negsuc, _+ℤ_, _-ℤ_}
+use Prim.Native.Nat.{ℕ, _+_, _-_, _≤_, _<_}
+use lib.IntN.{ℤ, negsuc, _+ℤ_}
 use lib.ListN.{length, set}
-use mathlib.Core.Bool.{true, false, cond}
 use mathlib.Core.List.{List, [], _∷_}
 use mathlib.Core.Logic.{⊎-elim}
-use mathlib.Core.Path.{_≡_, refl, sym, ap, _∙_}
+use mathlib.Core.Path.{_≡_, refl, sym, ap}
 use native.Mathlib.Omega.{arith}
-use Rattle.std.proofs.shelf.Signed.{ints, clamps}
+use Rattle.std.proofs.shelf.Signed.{ints}
 use Rattle.std.proofs.shelf.Tests.{cases-lt, lt-ltb, le-ltb, eq-eqb, ne-eqb}
 use Rattle.capacity.specs.declared.boundary.Boundary.{Boundary}
 use Rattle.capacity.specs.Calls.{later-than}
@@ -17,7 +15,6 @@ use Rattle.capacity.specs.Noted.{first-end}
 use Rattle.capacity.specs.Spare.{first-spare}
 use Rattle.slot_book.specs.Carry.{span-at, with-more}
 use Rattle.slot_book.specs.Spans.{spans-of, later-spans}
-use Rattle.slot_book.specs.declared.span.Span.{Span}
 
 -- a slot for nobody costs the first interval one spare slot
 pub spans-narrower :

@@ -1,9 +1,9 @@
 -- A new boundary splits an interval: what it had to spare is shared out, and nothing before it changes.
-use Prim.Native.Nat.{ℕ, zero, suc, _+_, _-_, _≤_, _<_}
-use lib.IntN.{ℤ, pos, _+ℤ_, _-ℤ_}
+use Prim.Native.Nat.{ℕ, zero, suc, _-_, _≤_, _<_}
+use lib.IntN.{pos, _-ℤ_}
 use lib.ListN.{length, set}
 use mathlib.Core.List.{List, [], _∷_}
-use mathlib.Core.Path.{_≡_, refl, sym, ap, _∙_}
+use mathlib.Core.Path.{_≡_, refl}
 use native.Mathlib.Omega.{arith}
 use Rattle.std.specs.Holes.{inserted}
 use Rattle.std.specs.Numbers.{minZ}
@@ -14,7 +14,6 @@ use Rattle.capacity.specs.Spare.{first-spare}
 use Rattle.slot_book.specs.Carry.{span-at}
 use Rattle.slot_book.specs.Spans.{spans-of}
 use Rattle.slot_book.specs.Split.{left-of, right-of}
-use Rattle.slot_book.specs.declared.span.Span.{Span}
 
 -- the two parts of the first interval
 first-part :

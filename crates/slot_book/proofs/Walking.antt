@@ -1,14 +1,13 @@
 -- The walk back, as it stands before each step.
 use Prim.Native.Nat.{ℕ, zero, suc, _+_, _-_, _≤_, _<_}
-use lib.IntN.{ℤ, pos, _+ℤ_, _-ℤ_}
-use lib.ListN.{length, getD, set, length-set}
+use lib.IntN.{ℤ, pos, _+ℤ_}
+use lib.ListN.{length, set, length-set}
 use lib.Seq.{getD-set-same, getD-set-other}
 use lib.Signed.{_≤ℤ_, _<ℤ_}
-use mathlib.Core.List.{List, [], _∷_}
+use mathlib.Core.List.{List}
 use mathlib.Core.Logic.{_⊎_, inl, inr, ⊎-elim, _≢_}
-use mathlib.Core.Path.{_≡_, refl, sym, ap, subst, _∙_}
+use mathlib.Core.Path.{_≡_, refl, sym, ap, _∙_}
 use native.Mathlib.Omega.{arith}
-use Rattle.std.specs.Numbers.{minZ}
 use Rattle.std.proofs.shelf.Signed.{ints, clamps, by-ltZ}
 use Rattle.std.proofs.shelf.Tests.{cases-lt}
 use Rattle.slot_book.specs.Carry.{with-more, handed-on, carried, span-at, Rose, All-small}

@@ -1,11 +1,11 @@
 -- What the changes of a slot-by-slot book keep.
-use Prim.Native.Nat.{ℕ, zero, suc, _+_, _-_, _≤_, _<_}
+use Prim.Native.Nat.{ℕ, _+_, _-_, _≤_, _<_}
 use lib.Dec.{leb, ltb}
 use lib.IntN.{ℤ, pos, negsuc, _+ℤ_, _-ℤ_}
 use lib.ListN.{length, getD, set, length-set}
-use mathlib.Core.Bool.{true, false, _&&_}
-use mathlib.Core.List.{List, [], _∷_}
-use mathlib.Core.Path.{_≡_, refl, sym, ap, subst, _∙_}
+use mathlib.Core.Bool.{true}
+use mathlib.Core.List.{List}
+use mathlib.Core.Path.{_≡_, refl, sym, ap, _∙_}
 use native.Mathlib.Omega.{arith}
 use Rattle.std.specs.Changed.{refilled}
 use Rattle.std.specs.Holes.{inserted}
@@ -16,9 +16,8 @@ use Rattle.std.proofs.shelf.Lists.{refilled-is, getD-read}
 use Rattle.std.proofs.shelf.Signed.{ints}
 use Rattle.std.proofs.shelf.Tests.{and-parts, ltb-true, leb-true}
 use Rattle.capacity.specs.declared.boundary.Boundary.{Boundary}
-use Rattle.capacity.specs.Calls.{due-at, with-due, with-boundary, with-boundaries, to-come, later-than}
+use Rattle.capacity.specs.Calls.{due-at, with-due, with-boundary, to-come, later-than}
 use Rattle.capacity.specs.Intervals.{boundary-at, start-at}
-use Rattle.capacity.specs.Meaning.{Meaning}
 use Rattle.capacity.specs.Noted.{unserved, first-end}
 use Rattle.capacity.specs.Places.{Stands, Lacks}
 use Rattle.capacity.specs.Shortage.{short}

@@ -1,9 +1,6 @@
 -- Numbers of at most a longest horizon, above and below nought. Spares and their changes are, so that no sum of two runs over.
-use Prim.Native.Nat.{ℕ, _<_}
 use lib.IntN.{ℤ, pos, _+ℤ_}
-use lib.ListN.{length, getD}
 use lib.Signed.{_≤ℤ_}
-use mathlib.Core.List.{List}
 use Rattle.terms.specs.Limits.{longest-horizon}
 
 abbrev pub Small : ℤ → Type 0

@@ -1,6 +1,5 @@
 // What the calls of the slot-by-slot book do to its records. Each is told by the demands that the new spares tell.
 ghost use Prim.Native.Nat.{_+_, _-_, _≤_, _<_};
-ghost use lib.ListN.{length, set};
 ghost use mathlib.Core.Bool.{true};
 ghost use mathlib.Core.Path.{_≡_};
 ghost use Rattle.std.specs.Of.Vec.{vec-items, vec-len, vec-cap};

@@ -4,10 +4,8 @@ use mathlib.Core.Path.{_≡_, sym, ap, _∙_}
 use mir.Syntax.{w32}
 use mir.Val.{SFits, toZ, ofZ}
 use borrow.Author.Needs.{needs}
-use native.Mathlib.Omega.{arith}
 use Rattle.std.proofs.shelf.Signed.{toZ-ofZ}
-use Rattle.slot_book.specs.Carry.{span-at, handed-on, with-more}
-use Rattle.slot_book.specs.Small.{Small}
+use Rattle.slot_book.specs.Carry.{span-at, handed-on}
 use Rattle.slot_book.proofs.Correspond.{span-is}
 use Rattle.slot_book.proofs.Walking.{begins, again, standing-small, ends-after, ends-raise}
 use Rattle.slot_book.proofs.walk.carry.Needs as need

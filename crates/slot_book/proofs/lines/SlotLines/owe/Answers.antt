@@ -1,4 +1,3 @@
-use native.Mathlib.Omega.{arith}
 use Rattle.capacity.proofs.Keeps.{boundary-later}
 use Rattle.slot_book.specs.Slot.{slot-boundaries}
 use Rattle.slot_book.proofs.lines.SlotLines.owe.Needs as need

@@ -1,6 +1,6 @@
 use Prim.Native.Nat.{_≤_, _<_}
 use lib.ListN.{length}
-use mathlib.Core.Path.{_≡_, sym, ap}
+use mathlib.Core.Path.{sym, ap}
 use borrow.Author.Needs.{needs}
 use native.Mathlib.Omega.{arith}
 use Rattle.std.specs.Of.Vec.{vec-items}

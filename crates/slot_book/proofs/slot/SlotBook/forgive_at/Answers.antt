@@ -1,13 +1,13 @@
 use Prim.Native.Nat.{_≤_, _<_}
-use lib.IntN.{pos, _-ℤ_}
+use lib.IntN.{pos}
 use lib.ListN.{length}
-use mathlib.Core.Path.{_≡_, ap, _∙_}
+use mathlib.Core.Path.{_≡_, ap}
 use borrow.Author.Needs.{needs}
 use mir.Syntax.{w32}
-use mir.Val.{SFits, toZ, ofZ}
+use mir.Val.{toZ}
 use native.Mathlib.Omega.{arith}
 use Rattle.std.specs.Of.Vec.{vec-items}
-use Rattle.std.proofs.shelf.Signed.{ints, toZ-ofZ}
+use Rattle.std.proofs.shelf.Signed.{ints}
 use Rattle.capacity.specs.Calls.{with-boundaries}
 use Rattle.slot_book.specs.Slot.{slot-meaning}
 use Rattle.slot_book.proofs.Books.{book-small, length-dues}

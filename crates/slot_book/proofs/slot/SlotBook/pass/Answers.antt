@@ -1,12 +1,10 @@
 use Prim.Native.Nat.{_+_, _≤_, _<_}
-use lib.IntN.{negsuc}
-use lib.ListN.{length, set}
-use mathlib.Core.Path.{_≡_, refl, ap}
+use lib.ListN.{length}
+use mathlib.Core.Path.{refl, ap}
 use borrow.Author.Needs.{needs}
 use native.Mathlib.Omega.{arith}
 use Rattle.std.specs.Of.Vec.{vec-items}
 use Rattle.std.proofs.shelf.Tests.{eq-eqb, ne-eqb}
-use Rattle.slot_book.specs.Spans.{later-spans}
 use Rattle.slot_book.proofs.Books.{read-in}
 use Rattle.slot_book.proofs.Correspond.{span-is}
 use Rattle.slot_book.proofs.Writes.{slot-to-come, some-span, passes-none}

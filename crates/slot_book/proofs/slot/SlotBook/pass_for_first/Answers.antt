@@ -1,8 +1,7 @@
-use Prim.Native.Nat.{_+_, _≤_, _<_}
-use mathlib.Core.Path.{_≡_, refl, ap}
+use Prim.Native.Nat.{_+_, _≤_}
+use mathlib.Core.Path.{ap}
 use borrow.Author.Needs.{needs}
 use native.Mathlib.Omega.{arith}
-use Rattle.capacity.specs.Meaning.{Meaning}
 use Rattle.capacity.proofs.Keeps.{boundary-later}
 use Rattle.capacity.proofs.Slots.{boundary-within}
 use Rattle.slot_book.specs.Slot.{slot-boundaries}

@@ -4,7 +4,6 @@ use mathlib.Core.Path.{_≡_, _∙_}
 use borrow.Author.Needs.{needs}
 use native.Mathlib.Omega.{arith}
 use Rattle.std.specs.Of.Vec.{vec-items, vec-len}
-use Rattle.capacity.specs.Intervals.{boundary-at}
 use Rattle.capacity.proofs.Places.{between-all, between-stands, between-above, between-below, between-none}
 use Rattle.slot_book.specs.Slot.{slot-boundaries}
 use Rattle.slot_book.proofs.Books.{length-dues, end-read}

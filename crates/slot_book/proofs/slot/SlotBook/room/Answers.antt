@@ -1,11 +1,7 @@
-use Prim.Native.Nat.{_+_, _≤_, _<_}
-use lib.ListN.{length}
-use mathlib.Core.Path.{_≡_, ap, _∙_}
+use Prim.Native.Nat.{_+_, _≤_}
+use mathlib.Core.Path.{ap, _∙_}
 use borrow.Author.Needs.{needs}
 use native.Mathlib.Omega.{arith}
-use Rattle.std.specs.Of.Vec.{vec-items}
-use Rattle.slot_book.specs.Carry.{span-at}
-use Rattle.slot_book.specs.Slot.{slot-meaning}
 use Rattle.slot_book.proofs.Books.{book-early}
 use Rattle.slot_book.proofs.Rooms.{sum-begins, sum-ends, sum-more, sum-all, headroom-small}
 use Rattle.slot_book.proofs.slot.SlotBook.room.Needs as need

@@ -1,4 +1,4 @@
-use mathlib.Core.Path.{_≡_, refl, sym, ap, _∙_}
+use mathlib.Core.Path.{_≡_, sym, ap, _∙_}
 use Rattle.std.specs.declared.option.Option.the-variants.{None}
 use Rattle.capacity.specs.Calls.{run-says, run-leaves, forgive-leaves}
 use Rattle.capacity.proofs.Slots.{forgive-taken, run-taken, run-is-forgive-and-pass}

@@ -1,4 +1,4 @@
-use Prim.Native.Nat.{_≤_, _<_}
+use Prim.Native.Nat.{_<_}
 use lib.ListN.{length, set}
 use mathlib.Core.Path.{_≡_, ap}
 use borrow.Author.Needs.{needs}
