@@ -11,6 +11,7 @@ use capacity::Book;
 use capacity::Boundary;
 use capacity::fits;
 use capacity::spares_slot;
+use std::alloc::Global;
 use std::error::AnyError;
 use terms::Refusal;
 use terms::RefusalDebug;
@@ -40,18 +41,19 @@ const SECOND_ORDER: u32 = 4;
 // Who gets the first slots.
 const OWNERS: [Option<u32>; 4] = [Some(12), Some(12), Some(12), None];
 
-// Fills a book with the worked example and prints its account. A book that is refused a call here, or a failed print, ends it.
-pub(crate) fn account<B: Book>(rt: &LibcRuntime, book: &mut B) -> Result<(), AnyError>
+// Fills a book with the worked example and writes its account, with an empty line before each part. A refusal, or want of memory,
+// ends it.
+pub(crate) fn account<B: Book>(heap: Global, book: &mut B) -> Result<String, AnyError>
     ensures { λ r. ⌜ made r (λ _. B·Book .meaning (now (book .exit)) ≡ day-end) ⌝ }
 {
-    println!(rt, "Account of the worked example\n")?;
+    let mut text = String::new(heap);
     fill(book, HORIZON, &DEMANDS)?;
-    print_intervals(rt, book, &DEMANDS)?;
-    print_headroom(rt, book, &QUESTIONS)?;
-    print_orders(rt, book)?;
-    print_slots(rt, book, &OWNERS)?;
-    print_intervals(rt, book, &DEMANDS)?;
-    Ok(())
+    write_intervals(&mut text, book, &DEMANDS)?;
+    write_headroom(&mut text, book, &QUESTIONS)?;
+    write_orders(&mut text, book)?;
+    write_slots(&mut text, book, &OWNERS)?;
+    write_intervals(&mut text, book, &DEMANDS)?;
+    Ok(text)
 }
 
 // Clears a book to a horizon, cuts it at each deadline and owes the demand there. The first refusal ends it.
@@ -67,8 +69,8 @@ fn fill<B: Book>(book: &mut B, horizon: u32, demands: &[Boundary]) -> Result<(),
 }
 
 // A line for each interval of a book, whose ends are those deadlines that are later than its clock.
-fn print_intervals<B: Book>(
-    rt: &LibcRuntime,
+fn write_intervals<B: Book>(
+    text: &mut String,
     book: &mut B,
     demands: &[Boundary],
 ) -> Result<(), AnyError>
@@ -76,12 +78,12 @@ fn print_intervals<B: Book>(
 {
     let mut from = book.clock();
     let mut interval = 0usize;
-    println!(rt, "At slot {from}\n{HEADING}")?;
+    writeln!(text, "\nAt slot {from}\n{HEADING}")?;
     for demand in demands {
         if demand.end > from {
             interval = interval.saturating_add(1);
             let row = Row::of(book, interval, from, demand.end)?;
-            println!(rt, "{row}")?;
+            writeln!(text, "{row}")?;
             from = demand.end;
         }
     }
@@ -89,34 +91,34 @@ fn print_intervals<B: Book>(
 }
 
 // The headroom at some slots, and whether the slot at the clock can be spared.
-fn print_headroom<B: Book>(rt: &LibcRuntime, book: &mut B, slots: &[u32]) -> Result<(), AnyError>
+fn write_headroom<B: Book>(text: &mut String, book: &mut B, slots: &[u32]) -> Result<(), AnyError>
     ensures { λ _. ⌜ B·Book .meaning (now (book .exit)) ≡ B·Book .meaning (now (book .entry)) ⌝ }
 {
-    println!(rt, "\nHeadroom")?;
+    writeln!(text, "\nHeadroom")?;
     for slot in slots {
         let headroom = book.headroom(*slot)?;
-        println!(rt, "at {slot:>2}: {headroom:>2}")?;
+        writeln!(text, "at {slot:>2}: {headroom:>2}")?;
     }
     let answer = if spares_slot(book)? { "yes" } else { "no" };
-    println!(rt, "the next slot can be spared: {answer}")?;
+    writeln!(text, "the next slot can be spared: {answer}")?;
     Ok(())
 }
 
 // The verdicts on two further demands. The first is taken back, so that the book is as it was.
-fn print_orders<B: Book>(rt: &LibcRuntime, book: &mut B) -> Result<(), AnyError>
+fn write_orders<B: Book>(text: &mut String, book: &mut B) -> Result<(), AnyError>
     ensures { λ r. ⌜ made r (λ _. B·Book .meaning (now (book .exit)) ≡ orders-leave (B·Book .meaning (now (book .entry)))) ⌝ }
 {
-    println!(rt, "\nOrders")?;
-    print_verdict(rt, book, DEADLINE, FIRST_ORDER)?;
-    print_verdict(rt, book, DEADLINE, SECOND_ORDER)?;
+    writeln!(text, "\nOrders")?;
+    write_verdict(text, book, DEADLINE, FIRST_ORDER)?;
+    write_verdict(text, book, DEADLINE, SECOND_ORDER)?;
     book.forgive(DEADLINE, FIRST_ORDER)?;
-    println!(rt, "forgive {FIRST_ORDER} at {DEADLINE}: accepted")?;
+    writeln!(text, "forgive {FIRST_ORDER} at {DEADLINE}: accepted")?;
     Ok(())
 }
 
 // The verdict on a demand that is owed beside what is due already.
-fn print_verdict<B: Book>(
-    rt: &LibcRuntime,
+fn write_verdict<B: Book>(
+    text: &mut String,
     book: &mut B,
     deadline: u32,
     demand: u32,
@@ -128,31 +130,30 @@ fn print_verdict<B: Book>(
     } else {
         "does not fit"
     };
-    print!(rt, "owe {demand} more at {deadline}: {fit}, ")?;
+    write!(text, "owe {demand} more at {deadline}: {fit}, ")?;
     match book.owe(deadline, demand) {
-        Ok(()) => println!(rt, "accepted")?,
-        Err(refusal) => println!(rt, "{refusal}")?,
-    }
+        Ok(()) => writeln!(text, "accepted"),
+        Err(refusal) => writeln!(text, "{refusal}"),
+    }?;
     Ok(())
 }
 
 // Lets a slot pass for each owner in turn. The first refusal ends it.
-fn print_slots<B: Book>(
-    rt: &LibcRuntime,
+fn write_slots<B: Book>(
+    text: &mut String,
     book: &mut B,
     owners: &[Option<u32>],
 ) -> Result<(), AnyError>
     ensures { λ r. ⌜ made r (λ _. B·Book .meaning (now (book .exit)) ≡ ran (B·Book .meaning (now (book .entry))) (now (owners .entry))) ⌝ }
 {
-    println!(rt, "\nSlots")?;
+    writeln!(text, "\nSlots")?;
     for owner in owners {
         let slot = book.clock();
         book.run(*owner)?;
         match owner {
-            Some(deadline) => println!(rt, "{slot:>2}: for {deadline}")?,
-            None => println!(rt, "{slot:>2}: for nobody")?,
-        }
+            Some(deadline) => writeln!(text, "{slot:>2}: for {deadline}"),
+            None => writeln!(text, "{slot:>2}: for nobody"),
+        }?;
     }
-    println!(rt)?;
     Ok(())
 }

@@ -1,7 +1,11 @@
 use crate::calls::*;
 use capacity::Book;
+use deferred_book::DeferredBook;
+use deferred_book::DeferredLines;
 use plain_book::PlainBook;
 use plain_book::PlainLines;
+use slot_book::SlotBook;
+use slot_book::SlotLines;
 use std::alloc::Global;
 use std::test::*;
 
@@ -14,6 +18,14 @@ fn play<B: Book>(heap: Global, book: &mut B, cases: &[(Call, Said)]) -> Result<(
         if said != Said::Taken {
             check_eq(look_at(heap, book)?, before)?;
         }
+    }
+    Ok(())
+}
+
+// Calls with what each must answer, and no other call in between: a book may put work off until it is asked.
+fn play_blind<B: Book>(book: &mut B, cases: &[(Call, Said)]) -> Result<(), Fail> {
+    for (call, expected) in cases {
+        check_eq(perform(book, *call), *expected)?;
     }
     Ok(())
 }
@@ -127,6 +139,42 @@ const FULL: [(Call, Said); 4] = [
     (Call::Owe(127, 1), Said::Taken),
 ];
 
+// The slots of the worked example in one go, and only then the spares.
+const LATE: [(Call, Said); 8] = [
+    (Call::Run(Some(12)), Said::Taken),
+    (Call::Run(Some(12)), Said::Taken),
+    (Call::Run(Some(12)), Said::Taken),
+    (Call::Run(None), Said::Taken),
+    (Call::Spare(1), Said::Value(0)),
+    (Call::Spare(2), Said::Value(1)),
+    (Call::Spare(3), Said::Value(1)),
+    (Call::Spare(4), Said::Value(0)),
+];
+
+// The first interval ends before anyone asks. At slot 7, 0, 1 and 2 are left at 8, 10 and 12: the spares are 1, 1 and 0.
+const ENDED: [(Call, Said); 12] = [
+    (Call::Run(Some(12)), Said::Taken),
+    (Call::Run(Some(12)), Said::Taken),
+    (Call::Run(Some(12)), Said::Taken),
+    (Call::Run(None), Said::Taken),
+    (Call::Run(Some(6)), Said::Taken),
+    (Call::Run(Some(6)), Said::Taken),
+    (Call::Run(Some(8)), Said::Taken),
+    (Call::Spare(1), Said::Value(1)),
+    (Call::Spare(2), Said::Value(1)),
+    (Call::Spare(3), Said::Value(0)),
+    (Call::Spare(4), Said::Refused(4)),
+    (Call::Headroom(12), Said::Value(2)),
+];
+
+// The tables in which slots pass unseen, each after the worked example.
+fn play_unseen<B: Book>(book: &mut B) -> Result<(), Fail> {
+    play_blind(book, &WORKED)?;
+    play_blind(book, &LATE)?;
+    play_blind(book, &WORKED)?;
+    play_blind(book, &ENDED)
+}
+
 fn play_all<B: Book>(heap: Global, book: &mut B) -> Result<(), Fail> {
     play(heap, book, &RANGES)?;
     play(heap, book, &WORKED)?;
@@ -134,6 +182,7 @@ fn play_all<B: Book>(heap: Global, book: &mut B) -> Result<(), Fail> {
     play(heap, book, &SLOTS)?;
     play(heap, book, &HORIZON)?;
     play(heap, book, &LOST)?;
+    play_unseen(book)?;
     check_eq(perform(book, Call::Clear(1000)), Said::Taken)?;
     for deadline in 1..128 {
         check_eq(perform(book, Call::Cut(deadline)), Said::Taken)?;
@@ -146,5 +195,19 @@ fn play_all<B: Book>(heap: Global, book: &mut B) -> Result<(), Fail> {
 fn plain_book_cases(rt: LibcRuntime) -> Result<(), Fail> {
     let heap = rt.alloc();
     let mut book = PlainBook::new(heap)?;
+    play_all(heap, &mut book)
+}
+
+#[test]
+fn slot_book_cases(rt: LibcRuntime) -> Result<(), Fail> {
+    let heap = rt.alloc();
+    let mut book = SlotBook::new(heap)?;
+    play_all(heap, &mut book)
+}
+
+#[test]
+fn deferred_book_cases(rt: LibcRuntime) -> Result<(), Fail> {
+    let heap = rt.alloc();
+    let mut book = DeferredBook::new(heap)?;
     play_all(heap, &mut book)
 }

@@ -120,7 +120,7 @@ room-from-le s bs h zero d r le = let all = room-le s bs h d r in omega arith
 room-from-le s [] h (suc k) d r le = absurd (omega arith)
 room-from-le s (b ∷ bs) h (suc k) d r le = room-from-le (b .end) bs h k d (rises-rest s b bs h r) (omega arith)
 
-start-next : (s : ℕ) (bs : List Boundary) (k : ℕ) → k < length bs → start-at s bs (suc k) ≡ boundary-at bs k .end
+pub start-next : (s : ℕ) (bs : List Boundary) (k : ℕ) → k < length bs → start-at s bs (suc k) ≡ boundary-at bs k .end
 start-next s [] k lt = absurd (omega arith)
 start-next s (b ∷ bs) zero lt = refl
 start-next s (b ∷ bs) (suc k) lt = start-next (b .end) bs k (omega arith)

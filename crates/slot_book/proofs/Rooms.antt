@@ -16,7 +16,7 @@ use Rattle.capacity.specs.declared.boundary.Boundary.{Boundary}
 use Rattle.capacity.specs.Intervals.{boundary-at, start-at}
 use Rattle.capacity.specs.Spare.{spares, positive-part, headroom, headroom-from}
 use Rattle.capacity.proofs.Naturals.{headroom-is-room}
-use Rattle.capacity.proofs.Suffixes.{room-from-le}
+use Rattle.capacity.proofs.Suffixes.{room-from-le, start-next}
 use Rattle.slot_book.specs.Carry.{span-at}
 use Rattle.slot_book.specs.Slot.{slot-meaning, slot-boundaries}
 use Rattle.slot_book.specs.declared.slot.SlotBook.{SlotBook}
@@ -41,11 +41,6 @@ headroom-done s [] zero d le = refl
 headroom-done s [] (suc k) d le = refl
 headroom-done s (b ∷ bs) zero d le = absurd (omega arith)
 headroom-done s (b ∷ bs) (suc k) d le = headroom-done (b .end) bs k d (omega arith)
-
-start-next : (s : ℕ) (bs : List Boundary) (k : ℕ) → k < length bs → start-at s bs (suc k) ≡ boundary-at bs k .end
-start-next s [] k lt = absurd (omega arith)
-start-next s (b ∷ bs) zero lt = refl
-start-next s (b ∷ bs) (suc k) lt = start-next (b .end) bs k (omega arith)
 
 -- the sum so far, where the next interval begins before d
 pub record Summed (b : SlotBook) (d k start room : ℕ) : Type 0 where

@@ -4,9 +4,9 @@ use Rattle.account.proofs.worked.account.Needs as need
 
 pub returns : need.returns
 returns g c =
-    day-ends (g .B·Book .meaning (c .fill .last .book)) (g .B·Book .meaning (c .print-headroom .last .book))
-    (g .B·Book .meaning (c .print-orders .last .book)) (g .B·Book .meaning (c .print-slots .last .book))
-    (g .B·Book .meaning (c .print-intervals-2 .last .book)) (c .in-Continue-fill .ensures tt)
-    (c .in-Continue-print-headroom .ensures tt ∙ c .in-Continue-print-intervals .ensures tt)
-    (c .in-Continue-print-orders .ensures tt) (c .in-Continue-print-slots .ensures tt)
-    (c .in-Continue-print-intervals-2 .ensures tt)
+    day-ends (g .B·Book .meaning (c .fill .last .book)) (g .B·Book .meaning (c .write-headroom .last .book))
+    (g .B·Book .meaning (c .write-orders .last .book)) (g .B·Book .meaning (c .write-slots .last .book))
+    (g .B·Book .meaning (c .write-intervals-2 .last .book)) (c .in-Continue-fill .ensures tt)
+    (c .in-Continue-write-headroom .ensures tt ∙ c .in-Continue-write-intervals .ensures tt)
+    (c .in-Continue-write-orders .ensures tt) (c .in-Continue-write-slots .ensures tt)
+    (c .in-Continue-write-intervals-2 .ensures tt)

@@ -1,5 +1,5 @@
 use Rattle.account.proofs.Filling.{ran-more, ran-all}
-use Rattle.account.proofs.worked.print_slots.Needs as need
+use Rattle.account.proofs.worked.write_slots.Needs as need
 
 pub loop-owner-again : need.loop-owner-again
 loop-owner-again g c =

@@ -1,7 +1,7 @@
 use lib.ListN.{drop}
 use mathlib.Core.Path.{_≡_}
 use Rattle.capacity.specs.Filled.{ran}
-use Rattle.account.proofs.worked.print_slots.Given as given
+use Rattle.account.proofs.worked.write_slots.Given as given
 
 -- the owners that are left lead to the same book
 abbrev pub Inv-loop-owner : given.InvT-loop-owner
