@@ -1,5 +1,5 @@
 -- The day of the worked example ends as the figures say.
-use mathlib.Core.List.{List, [], _∷_}
+use mathlib.Core.List.{[], _∷_}
 use mathlib.Core.Path.{_≡_, refl, ap, _∙_}
 use Rattle.std.specs.declared.option.Option.the-variants.{Some, None}
 use Rattle.capacity.specs.Calls.{cleared}

@@ -1,10 +1,10 @@
 -- A line of the account is what the book says, and its demand is what the book holds.
-use Prim.Native.Nat.{ℕ, suc, _+_, _-_, _≤_, _<_}
+use Prim.Native.Nat.{ℕ, suc, _+_, _-_, _≤_}
 use lib.Dec.{leb}
 use lib.IntN.{ℤ, pos, _+ℤ_, _-ℤ_}
-use lib.ListN.{length, getD}
+use lib.ListN.{length}
 use mathlib.Core.Bool.{Bool, true, false, not, _&&_}
-use mathlib.Core.Path.{_≡_, refl, sym, ap, _∙_}
+use mathlib.Core.Path.{_≡_, refl, ap, _∙_}
 use native.Mathlib.Omega.{arith}
 use Rattle.std.specs.Numbers.{minZ}
 use Rattle.std.proofs.shelf.Signed.{ints, clamps}
@@ -15,7 +15,6 @@ use Rattle.capacity.specs.Intervals.{start-at, boundary-at}
 use Rattle.capacity.specs.Meaning.{Meaning}
 use Rattle.capacity.specs.Spare.{spare, spares}
 use Rattle.capacity.proofs.Intervals.{spare-from-next}
-use Rattle.account.specs.declared.rows.Row.{Row}
 use Rattle.account.specs.Rows.{due-from, row-says}
 
 -- an answer with a value was not refused

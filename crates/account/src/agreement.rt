@@ -1,5 +1,4 @@
 // Whether the accounts of the three books are the same text.
-ghost use lib.Chars.{codes};
 ghost use Rattle.std.specs.Orderings.{Decides};
 ghost use Rattle.account.specs.Agreement.{Same-three, Closed-by};
 

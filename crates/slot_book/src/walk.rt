@@ -2,6 +2,8 @@
 ghost use Prim.Native.Nat.{_≤_, _<_};
 ghost use lib.IntN.{pos, _-ℤ_};
 ghost use lib.ListN.{length};
+ghost use mathlib.Core.Bool.{true, false};
+ghost use mathlib.Core.Logic.{_⊎_};
 ghost use mathlib.Core.Path.{_≡_};
 ghost use Rattle.terms.specs.Limits.{longest-horizon};
 ghost use Rattle.slot_book.specs.Carry.{carried, Rose, All-small};
@@ -22,11 +24,19 @@ pub(crate) fn carry(spans: &mut [Span], from: usize, mut change: i32) -> usize
         let span = spans[place];
         spans[place] = span.changed(change);
         change = span.carried_on(change);
-        if change == 0 || place == 0 {
+        if is_over(change, place) {
             break place;
         }
         place -= 1;
     }
+}
+
+// Whether carrying is over: nothing is left to hand on, or no interval lies before.
+fn is_over(change: i32, place: usize) -> bool
+    ensures over { λ r. ⌜ (r ≡ true → (change ≡ pos 0) ⊎ (place ≡ 0)) ⌝ }
+    ensures goes { λ r. ⌜ (r ≡ false → (change ≡ pos 0 → ⊥) × (place ≡ 0 → ⊥)) ⌝ }
+{
+    change == 0 || place == 0
 }
 
 // A demand as a change: so many slots less to spare.

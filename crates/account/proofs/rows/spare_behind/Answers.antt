@@ -1,7 +1,5 @@
-use Prim.Native.Nat.{ℕ, _+_, _-_, _≤_}
-use lib.IntN.{pos}
-use lib.ListN.{length}
-use mathlib.Core.Path.{_≡_, refl, sym, ap}
+use Prim.Native.Nat.{_+_, _-_}
+use mathlib.Core.Path.{refl, sym, ap}
 use native.Mathlib.Omega.{arith}
 use Rattle.terms.specs.Answers.{value}
 use Rattle.capacity.proofs.Intervals.{spare-past}
