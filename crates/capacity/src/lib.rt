@@ -1,4 +1,6 @@
 // Capacity books: what a cart still has to give, interval by interval.
+#![tactic(auto)]
+
 mod book;
 mod boundary;
 mod verdict;

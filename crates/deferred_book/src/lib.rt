@@ -1,4 +1,6 @@
 // The deferred book: it notes the slots that pass, and brings a slot-by-slot book up to date only when someone asks.
+#![tactic(auto)]
+
 mod deferred;
 mod lines;
 mod notes;

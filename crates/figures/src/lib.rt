@@ -1,4 +1,6 @@
 // The worked figures: one list of facts in specs/, all of them proved here.
+#![tactic(auto)]
+
 ghost use Rattle.std.specs.Prelude.{◌≡◌, length};
 ghost use Rattle.figures.specs.Figures.{figures, AllHold};
 

@@ -1,4 +1,6 @@
 // The slot-by-slot book: it keeps the spares, and mends them at every run.
+#![tactic(auto)]
+
 mod changes;
 mod lines;
 mod places;

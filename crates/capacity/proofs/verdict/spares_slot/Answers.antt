@@ -4,7 +4,7 @@ use Rattle.capacity.proofs.verdict.spares_slot.Goals as goal
 pub returns : goal.returns
 returns g c =
     record {
-      answer = c.first-has-spare.ensures.answer;
-      same = c.first-has-spare.ensures.same;
+      answer = c.first_has_spare.ensures.answer;
+      same = c.first_has_spare.ensures.same;
       exact = spare_means_slack _;
     }
