@@ -13,17 +13,17 @@ used-requires c =
     let at = turn_before _ _ _ _ _ _ _ _ c.loop-place.invariant c.loop-place-test.true c.requires.records c.requires.order.1 in
     record {
       small = at.small;
-      wide = (omega (arith, at.wide, c.start-of.ensures), at.early);
-      some = omega (arith, ints, at.law, c.start-of.ensures);
+      wide = (omega (arith, at.wide, c.start_of.ensures), at.early);
+      some = omega (arith, ints, at.law, c.start_of.ensures);
     }
 
-pub overflow-sub-due : goal.overflow-sub-due
-overflow-sub-due c =
+pub overflow_sub-due : goal.overflow_sub-due
+overflow_sub-due c =
     let at = turn_before _ _ _ _ _ _ _ _ c.loop-place.invariant c.loop-place-test.true c.requires.records c.requires.order.1 in
     omega (arith, ints, at.law, c.start-of.ensures, c.used.ensures)
 
-pub overflow-add-left : goal.overflow-add-left
-overflow-add-left c =
+pub overflow_add-left : goal.overflow_add-left
+overflow_add-left c =
     let at = turn_before _ _ _ _ _ _ _ _ c.loop-place.invariant c.loop-place-test.true c.requires.records c.requires.order.1 in
     let left =
     left_is _ _ _ _ _ _ _ _ _ _ _ at c.start-of.ensures c.used.ensures c.saturating-sub-left.ensures
@@ -36,10 +36,10 @@ pub using-mended-requires : goal.using-mended-requires
 using-mended-requires c =
     let at = turn_before _ _ _ _ _ _ _ _ c.loop-place.invariant c.loop-place-test.true c.requires.records c.requires.order.1 in
     let left =
-    left_is _ _ _ _ _ _ _ _ _ _ _ at c.start-of.ensures c.used.ensures c.saturating-sub-left.ensures
+    left_is _ _ _ _ _ _ _ _ _ _ _ at c.start_of.ensures c.used.ensures c.saturating_sub-left.ensures
     (c.loop-place.invariant.less c.loop-place-test.true)
     in
-    record { wide = (omega (arith, at.wide_now, c.start-of-in-loop-place.ensures), at.early); fits = left.1 }
+    record { wide = (omega (arith, at.wide_now, c.start_of-in-loop-place.ensures), at.early); fits = left.1 }
 
 pub lacking-before-requires : goal.lacking-before-requires
 lacking-before-requires c =
@@ -49,10 +49,10 @@ pub lacking-after-requires : goal.lacking-after-requires
 lacking-after-requires c =
     let at = turn_before _ _ _ _ _ _ _ _ c.loop-place.invariant c.loop-place-test.true c.requires.records c.requires.order.1 in
     let left =
-    left_is _ _ _ _ _ _ _ _ _ _ _ at c.start-of.ensures c.used.ensures c.saturating-sub-left.ensures
+    left_is _ _ _ _ _ _ _ _ _ _ _ at c.start_of.ensures c.used.ensures c.saturating_sub-left.ensures
     (c.loop-place.invariant.less c.loop-place-test.true)
     in
-    let start : c.start-of-in-loop-place.result ≤ 1000000 = omega (arith, at.wide_now, at.early, c.start-of-in-loop-place.ensures) in (
+    let start : c.start_of-in-loop-place.result ≤ 1000000 = omega (arith, at.wide_now, at.early, c.start_of-in-loop-place.ensures) in (
       omega (arith, ints, at.early, left.1, c.using-mended.ensures.spare),
       omega (arith, ints, at.early, left.1, c.using-mended.ensures.spare),
     )
@@ -61,13 +61,13 @@ pub loop-place-preserved : goal.loop-place-preserved
 loop-place-preserved c =
     let at = turn_before _ _ _ _ _ _ _ _ c.loop-place.invariant c.loop-place-test.true c.requires.records c.requires.order.1 in
     let left =
-    left_is _ _ _ _ _ _ _ _ _ _ _ at c.start-of.ensures c.used.ensures c.saturating-sub-left.ensures
+    left_is _ _ _ _ _ _ _ _ _ _ _ at c.start_of.ensures c.used.ensures c.saturating_sub-left.ensures
     (c.loop-place.invariant.less c.loop-place-test.true)
     in
     let due = (boundary_at (dues_of c.args.from c.args.spans.now) (c.loop-place.place - 1)).due in
     mends_before _ _ _ _ _ _ _ _ _ c.using-mended.result _ _ c.loop-place.invariant c.loop-place-test.true at
     (left.0 ∙ ap (λ n. due - n) c.given.ensures) c.using-mended.ensures.end
-    (rw c.start-of-in-loop-place.ensures at c.using-mended.ensures.spare) c.lacking-before.ensures
+    (rw c.start_of-in-loop-place.ensures at c.using-mended.ensures.spare) c.lacking-before.ensures
     c.lacking-after.ensures
 
 pub returns : goal.returns

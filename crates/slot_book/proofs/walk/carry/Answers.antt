@@ -12,23 +12,23 @@ walk-init c =
 pub changed-requires : goal.changed-requires
 changed-requires c = (standing_small _ _ _ _ _ _ c.walk.invariant c.requires.spares, c.walk.invariant.small)
 
-pub carried-on-change-requires : goal.carried-on-change-requires
-carried-on-change-requires c = (standing_small _ _ _ _ _ _ c.walk.invariant c.requires.spares, c.walk.invariant.small)
+pub carried_on-change-requires : goal.carried_on-change-requires
+carried_on-change-requires c = (standing_small _ _ _ _ _ _ c.walk.invariant c.requires.spares, c.walk.invariant.small)
 
 pub walk-preserved : goal.walk-preserved
 walk-preserved c =
-    let fits : SFits w32 c.carried-on-change.result = search rules in
-    let on = rw (to_z-of_z w32 c.carried-on-change.result fits) at (c.is-over.ensures.goes c.if-is-over.false) in
-    rw (to_z-of_z w32 c.carried-on-change.result fits)
-    (again _ _ _ _ _ _ c.carried-on-change.result c.changed.result c.walk.invariant c.changed.ensures.end
-    c.changed.ensures.spare c.carried-on-change.ensures on.0 on.1)
+    let fits : SFits w32 c.carried_on-change.result = search rules in
+    let on = rw (to_z-of_z w32 c.carried_on-change.result fits) at (c.is_over.ensures.goes c.if-is_over.false) in
+    rw (to_z-of_z w32 c.carried_on-change.result fits)
+    (again _ _ _ _ _ _ c.carried_on-change.result c.changed.result c.walk.invariant c.changed.ensures.end
+    c.changed.ensures.spare c.carried_on-change.ensures on.0 on.1)
 
 pub returns : goal.returns
 returns c =
-    let fits : SFits w32 c.carried-on-change.result = search rules in
+    let fits : SFits w32 c.carried_on-change.result = search rules in
     let whole = to_z-of_z w32 c.args.change c.ranges.change in
     let is = span_is c.changed.result _ _ c.changed.ensures.end c.changed.ensures.spare in
-    let over = rw (to_z-of_z w32 c.carried-on-change.result fits, c.carried-on-change.ensures) at (c.is-over.ensures.over c.if-is-over.true) in
+    let over = rw (to_z-of_z w32 c.carried_on-change.result fits, c.carried_on-change.ensures) at (c.is_over.ensures.over c.if-is_over.true) in
     record {
       after = rw whole at (ends_after _ _ _ _ _ _ _ c.walk.invariant is over);
       rose = λ one. ends_raise _ _ _ _ _ _ _ c.walk.invariant is over (whole ∙ one);

@@ -4,12 +4,12 @@ use Rattle.capacity.specs.Intervals.{boundary_at}
 use Rattle.capacity.proofs.Suffixes.{placed_at}
 use Rattle.plain_book.proofs.plain.PlainBook.interval.Goals as goal
 
-pub invariant-of-result : goal.invariant-of-result
-invariant-of-result c =
+pub invariant_of-result : goal.invariant_of-result
+invariant_of-result c =
     let book = c.args.self.now in
     let within : c.args.place < length (vec_items book.boundaries) = search rules in
     let p = placed_at _ _ book.horizon c.args.place book.ordered book.bounded within in
     let read : c.index.result.now.end ≡ (boundary_at (vec_items book.boundaries) c.args.place).end =
     ap (λ b. b.end) (get_or_read _ _ _ within c.index.ensures _)
     in
-    (omega (arith, p.wide), (omega (arith, p.early, book.ranged), tt))
+    record { wide = omega (arith, p.wide); early = omega (arith, p.early, book.ranged) }

@@ -4,8 +4,8 @@ use Rattle.capacity.proofs.Passing.{some_left, later_stays, later_goes}
 use Rattle.plain_book.proofs.Passing.{pass_keeps}
 use Rattle.plain_book.proofs.plain.PlainBook.pass.Goals as goal
 
-pub overflow-add-self : goal.overflow-add-self
-overflow-add-self c =
+pub overflow_add-self : goal.overflow_add-self
+overflow_add-self c =
     let book = c.args.self.now in
     let le = rises_le book.clock (vec_items book.boundaries) book.horizon book.ordered in
     let small : book.clock ≤ 1000000 = omega (arith, book.ranged) in
@@ -21,12 +21,12 @@ remove-requires c =
     let book = c.args.self.now in
     omega (arith, some_left book.clock (vec_items book.boundaries) book.horizon book.ordered c.if-self.false)
 
-pub invariant-of-self-else-index-self : goal.invariant-of-self-else-index-self
-invariant-of-self-else-index-self c =
+pub invariant_of-self-else-index-self : goal.invariant_of-self-else-index-self
+invariant_of-self-else-index-self c =
     let book = c.args.self.now in
     let stays =
     later_stays book.clock (vec_items book.boundaries) book.horizon c.index.result.now book.ordered
     c.index.ensures c.if-index-self.false
     in
     let k = pass_keeps book (vec_items book.boundaries) c.if-self.false (sym stays) in
-    (k.0, (k.1, (book.ranged, (book.few, (book.room, tt)))))
+    record { ordered = k.0; bounded = k.1; ranged = book.ranged; few = book.few; room = book.room }

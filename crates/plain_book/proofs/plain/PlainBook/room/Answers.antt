@@ -11,14 +11,14 @@ loop-place-init c =
     let all : c.len-place.result ≡ length bs = search rules in
     (rw all (sym (short_all book.clock bs)), rw all (sym (room_all book.clock bs c.args.deadline)))
 
-pub free-before-room-requires : goal.free-before-room-requires
-free-before-room-requires c =
+pub free_before-room-requires : goal.free_before-room-requires
+free_before-room-requires c =
     (turn c.args.self.now c.interval-interval.result _ _ (search rules) (search rules)
     c.interval-interval.ensures.start c.interval-interval.ensures.end c.interval-interval.ensures.due
     c.loop-place.invariant.0).fits
 
-pub overflow-add-room : goal.overflow-add-room
-overflow-add-room c =
+pub overflow_add-room : goal.overflow_add-room
+overflow_add-room c =
     let book = c.args.self.now in
     let within : c.loop-place.place ≤ length (vec_items book.boundaries) = search rules in
     let most =
@@ -26,7 +26,7 @@ overflow-add-room c =
     book.ordered within
     in
     let so_far : c.loop-place.room ≤ 1000000 = omega (arith, c.loop-place.invariant.1, book.ranged) in
-    let here : c.free-before-room.result ≤ 1000000 = omega (arith, c.interval-interval.result.early) in
+    let here : c.free_before-room.result ≤ 1000000 = omega (arith, c.interval-interval.result.early) in
     search rules
 
 pub lacking-behind-requires : goal.lacking-behind-requires

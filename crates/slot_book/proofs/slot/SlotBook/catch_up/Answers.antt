@@ -6,19 +6,19 @@ use Rattle.slot_book.specs.Slot.{slot_boundaries}
 use Rattle.slot_book.proofs.Writes.{catches_up, mendable, mended_items}
 use Rattle.slot_book.proofs.slot.SlotBook.catch_up.Goals as goal
 
-pub overflow-sub-first-end : goal.overflow-sub-first-end
-overflow-sub-first-end c =
+pub overflow_sub-first_end : goal.overflow_sub-first_end
+overflow_sub-first_end c =
     let book = c.args.self.now in
     omega (arith, c.first-end.ensures, (first_end_later book.clock (slot_boundaries book) book.horizon book.ordered).0)
 
-pub returns-then-slots-first-end : goal.returns-then-slots-first-end
-returns-then-slots-first-end c =
+pub returns-then-slots-first_end : goal.returns-then-slots-first_end
+returns-then-slots-first_end c =
     let book = c.args.self.now in
     let past = lt-leb (book.clock + c.args.slots) (first_end book.clock (slot_boundaries book)) (omega (arith, c.first-end.ensures, c.if-slots-first-end.true)) in
     record { answer = rw past refl; book = rw past refl }
 
-pub overflow-add-clock : goal.overflow-add-clock
-overflow-add-clock c =
+pub overflow_add-clock : goal.overflow_add-clock
+overflow_add-clock c =
     let book = c.args.self.now in
     let ends = first_end_later book.clock (slot_boundaries book) book.horizon book.ordered in
     let small : book.clock + c.args.slots ≤ 1000000 =
@@ -29,15 +29,15 @@ overflow-add-clock c =
 pub mend-requires : goal.mend-requires
 mend-requires c =
     let book = c.args.self.now in
-    let lent = c.deref-mut.ensures.value in
+    let lent = c.deref_mut.ensures.value in
     let ends = first_end_later book.clock (slot_boundaries book) book.horizon book.ordered in
     let within : book.clock + c.args.slots ≤ first_end book.clock (slot_boundaries book) =
-    omega (arith, ends.0, c.first-end.ensures, c.if-slots-first-end.false)
+    omega (arith, ends.0, c.first_end.ensures, c.if-slots-first_end.false)
     in
     record { records = rw lent (mendable book); order = (omega arith, rw lent within) }
 
-pub invariant-of-self : goal.invariant-of-self
-invariant-of-self c =
+pub invariant_of-self : goal.invariant_of-self
+invariant_of-self c =
     let book = c.args.self.now in
     let ends = first_end_later book.clock (slot_boundaries book) book.horizon book.ordered in
     let within : book.clock + c.args.slots ≤ first_end book.clock (slot_boundaries book) =
@@ -52,9 +52,9 @@ returns c =
     let book = c.args.self.now in
     let ends = first_end_later book.clock (slot_boundaries book) book.horizon book.ordered in
     let within : book.clock + c.args.slots ≤ first_end book.clock (slot_boundaries book) =
-    omega (arith, ends.0, c.first-end.ensures, c.if-slots-first-end.false)
+    omega (arith, ends.0, c.first_end.ensures, c.if-slots-first_end.false)
     in
-    let mended = mended_items book c.args.slots c.args.served.now _ _ (search rules) c.mend.ensures c.deref-mut.ensures.value in
+    let mended = mended_items book c.args.slots c.args.served.now _ _ (search rules) c.mend.ensures c.deref_mut.ensures.value in
     let k = catches_up book c.args.slots c.args.served.now _ _ within mended c.drop-ended.ensures.items in
     let fit = le-leb (book.clock + c.args.slots) (first_end book.clock (slot_boundaries book)) within in
     record {

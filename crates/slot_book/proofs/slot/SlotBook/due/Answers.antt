@@ -22,8 +22,8 @@ used-requires c =
       some = omega (arith, ints, x.spare, c.start-start.ensures);
     }
 
-pub overflow-sub-result : goal.overflow-sub-result
-overflow-sub-result c =
+pub overflow_sub-result : goal.overflow_sub-result
+overflow_sub-result c =
     let within : c.args.place < length (vec_items c.args.self.now.spans) = search rules in
     let x = read_in c.args.self.now c.index.result.now c.args.place within c.index.ensures in
     omega (arith, ints, x.spare, c.start-start.ensures, c.used.ensures, c.lacking.ensures)

@@ -15,7 +15,7 @@ pub carry-requires : goal.carry-requires
 carry-requires c =
     let book = c.args.self.now in
     let few : c.args.demand ≤ 1000000 = room_small book c.args.deadline c.args.place c.args.demand c.requires.stands c.requires.fits in
-    let lent = c.deref-mut.ensures.value in
+    let lent = c.deref_mut.ensures.value in
     let within : c.args.place < length (vec_items book.spans) =
     omega (arith, c.requires.stands.within, length_dues book.clock (vec_items book.spans))
     in
@@ -26,8 +26,8 @@ carry-requires c =
       by = rw amount (omega (arith, ints), omega (arith, ints));
     }
 
-pub invariant-of-self : goal.invariant-of-self
-invariant-of-self c =
+pub invariant_of-self : goal.invariant_of-self
+invariant_of-self c =
     let book = c.args.self.now in
     let few : c.args.demand ≤ 1000000 = room_small book c.args.deadline c.args.place c.args.demand c.requires.stands c.requires.fits in
     let amount : to_z w32 (of_z w32 c.loss-change.result) ≡ pos 0 -ℤ pos c.args.demand = (let f : SFits w32 c.loss-change.result = search rules in to_z-of_z w32 _ f ∙ c.loss-change.ensures) in
@@ -40,6 +40,6 @@ returns c =
     let book = c.args.self.now in
     let few : c.args.demand ≤ 1000000 = room_small book c.args.deadline c.args.place c.args.demand c.requires.stands c.requires.fits in
     let amount : to_z w32 (of_z w32 c.loss-change.result) ≡ pos 0 -ℤ pos c.args.demand = (let f : SFits w32 c.loss-change.result = search rules in to_z-of_z w32 _ f ∙ c.loss-change.ensures) in
-    let items = carried_items book.spans _ _ _ _ _ (search rules) c.carry.ensures.after amount c.deref-mut.ensures.value in
+    let items = carried_items book.spans _ _ _ _ _ (search rules) c.carry.ensures.after amount c.deref_mut.ensures.value in
     let k = owed book c.args.deadline c.args.place c.args.demand _ c.requires.stands c.requires.fits items in
     ap (with_boundaries (slot_meaning book)) k.tells

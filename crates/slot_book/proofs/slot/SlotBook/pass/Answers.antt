@@ -10,8 +10,8 @@ returns-then-self c =
     let at = eq-eqb c.args.self.now.clock c.args.self.now.horizon c.if-self.true in
     record { answer = rw at refl; book = rw at refl }
 
-pub overflow-add-self : goal.overflow-add-self
-overflow-add-self c =
+pub overflow_add-self : goal.overflow_add-self
+overflow_add-self c =
     let before = slot_to_come c.args.self.now c.if-self.false in
     let small : c.args.self.now.clock ≤ 1000000 = omega (arith, c.args.self.now.ranged) in
     search rules
@@ -26,13 +26,13 @@ changed-requires c =
     let some : 0 < length (vec_items c.args.self.now.spans) = some_span c.args.self.now c.if-self.false in
     ((read_in c.args.self.now c.index.result.now 0 some c.index.ensures).small, (search rules, search rules))
 
-pub index-mut-requires : goal.index-mut-requires
-index-mut-requires c =
+pub index_mut-requires : goal.index_mut-requires
+index_mut-requires c =
     let some : 0 < length (vec_items c.args.self.now.spans) = some_span c.args.self.now c.if-self.false in
     search rules
 
-pub invariant-of-self : goal.invariant-of-self
-invariant-of-self c =
+pub invariant_of-self : goal.invariant_of-self
+invariant_of-self c =
     let book = c.args.self.now in
     let less = span_is c.changed.result _ _ c.changed.ensures.end c.changed.ensures.spare in
     let k = passes_none book c.index.result.now c.changed.result _ c.if-self.false c.index.ensures less c.drop-ended.ensures.items in
@@ -42,7 +42,7 @@ pub returns : goal.returns
 returns c =
     let book = c.args.self.now in
     let less = span_is c.changed.result _ _ c.changed.ensures.end c.changed.ensures.spare in
-    let k = passes_none book c.index.result.now c.changed.result _ c.if-self.false c.index.ensures less c.drop-ended.ensures.items in
+    let k = passes_none book c.index.result.now c.changed.result _ c.if-self.false c.index.ensures less c.drop_ended.ensures.items in
     let off = ne_eqb book.clock book.horizon c.if-self.false in
     record {
       answer = rw off refl;

@@ -5,8 +5,8 @@ use Rattle.slot_book.specs.Slot.{slot_boundaries}
 use Rattle.slot_book.proofs.Writes.{passes_first}
 use Rattle.slot_book.proofs.slot.SlotBook.pass_for_first.Goals as goal
 
-pub overflow-add-self : goal.overflow-add-self
-overflow-add-self c =
+pub overflow_add-self : goal.overflow_add-self
+overflow_add-self c =
     let book = c.args.self.now in
     let at = c.requires.first in
     let after = boundary_later book.clock (slot_boundaries book) book.horizon c.args.deadline book.ordered at.held in
@@ -14,8 +14,8 @@ overflow-add-self c =
     let small : book.clock ≤ 1000000 = omega (arith, book.ranged) in
     search rules
 
-pub invariant-of-self : goal.invariant-of-self
-invariant-of-self c =
+pub invariant_of-self : goal.invariant_of-self
+invariant_of-self c =
     let book = c.args.self.now in
     let k = passes_first book c.args.deadline _ c.requires.first c.requires.owed c.drop-ended.ensures.items in
     (k.keeps.fair, (k.keeps.ordered, (k.keeps.bounded, (book.ranged, (search rules, (search rules, tt))))))
@@ -23,5 +23,5 @@ invariant-of-self c =
 pub returns : goal.returns
 returns c =
     let book = c.args.self.now in
-    let k = passes_first book c.args.deadline _ c.requires.first c.requires.owed c.drop-ended.ensures.items in
+    let k = passes_first book c.args.deadline _ c.requires.first c.requires.owed c.drop_ended.ensures.items in
     ap (λ bs. record { clock = book.clock + 1; horizon = book.horizon; boundaries = bs }) k.tells

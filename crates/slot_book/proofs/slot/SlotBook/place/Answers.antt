@@ -10,8 +10,8 @@ loop-low-init c =
     let all : vec_len book.spans ≡ length (vec_items book.spans) = search rules in
     between_all (slot_boundaries book) c.args.deadline _ (omega (arith, length_dues book.clock (vec_items book.spans)))
 
-pub overflow-add-middle : goal.overflow-add-middle
-overflow-add-middle c =
+pub overflow_add-middle : goal.overflow_add-middle
+overflow_add-middle c =
     let book = c.args.self.now in
     let all : vec_len book.spans ≡ length (vec_items book.spans) = search rules in
     let most : vec_len book.spans ≤ 128 = book.few in
@@ -35,8 +35,8 @@ returns-then-end-deadline c =
     between_stands book.clock (slot_boundaries book) book.horizon c.args.deadline _ _ middle book.ordered
     c.loop-low.invariant lt (end_read book c.index.result.now middle within c.index.ensures ∙ c.if-end-deadline.true)
 
-pub overflow-add-low : goal.overflow-add-low
-overflow-add-low c =
+pub overflow_add-low : goal.overflow_add-low
+overflow_add-low c =
     let book = c.args.self.now in
     let all : vec_len book.spans ≡ length (vec_items book.spans) = search rules in
     let most : vec_len book.spans ≤ 128 = book.few in

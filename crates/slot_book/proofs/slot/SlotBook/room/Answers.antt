@@ -6,16 +6,16 @@ use Rattle.slot_book.proofs.slot.SlotBook.room.Goals as goal
 pub loop-span-init : goal.loop-span-init
 loop-span-init c = sum_begins c.args.self.now c.args.deadline c.requires
 
-pub free-before-requires : goal.free-before-requires
-free-before-requires c =
+pub free_before-requires : goal.free_before-requires
+free_before-requires c =
     let book = c.args.self.now in
     let same = c.deref-span-items.ensures.value in
     let lt = rw same at c.loop-span-test.true in
     let le = rw same at c.if-deadline-span.true in
     omega (arith, book_early book c.loop-span.span-index lt)
 
-pub overflow-add-result : goal.overflow-add-result
-overflow-add-result c =
+pub overflow_add-result : goal.overflow_add-result
+overflow_add-result c =
     let book = c.args.self.now in
     let same = c.deref-span-items.ensures.value in
     let lt = rw same at c.loop-span-test.true in
@@ -34,11 +34,11 @@ returns-then-deadline-span c =
     let lt = rw same at c.loop-span-test.true in
     let le = rw same at c.if-deadline-span.true in
     let sum = sum_ends book c.args.deadline _ _ _ c.loop-span.invariant lt le in
-    let part = rw same at c.free-before.ensures in
+    let part = rw same at c.free_before.ensures in
     ap (λ n. c.loop-span.room + n) part ∙ sum
 
-pub overflow-add-room : goal.overflow-add-room
-overflow-add-room c =
+pub overflow_add-room : goal.overflow_add-room
+overflow_add-room c =
     let book = c.args.self.now in
     let same = c.deref-span-items.ensures.value in
     let lt = rw same at c.loop-span-test.true in

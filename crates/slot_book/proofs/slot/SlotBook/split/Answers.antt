@@ -19,21 +19,21 @@ index-whole-requires c =
     let within : c.args.place < length (vec_items c.args.self.now.spans) = at.place in
     search rules
 
-pub right-part-requires : goal.right-part-requires
-right-part-requires c =
+pub right_part-requires : goal.right_part-requires
+right_part-requires c =
     let at = inside c.args.self.now c.args.deadline c.args.place c.requires.new c.requires.coming in
     record {
       small = (read_in c.args.self.now c.index-whole.result.now c.args.place at.place c.index-whole.ensures).small;
       inside = (omega (arith, at.start, c.start-start.ensures), at.early);
     }
 
-pub left-part-requires : goal.left-part-requires
-left-part-requires c =
+pub left_part-requires : goal.left_part-requires
+left_part-requires c =
     let at = inside c.args.self.now c.args.deadline c.args.place c.requires.new c.requires.coming in
     (omega (arith, at.start, c.start-start.ensures), at.early)
 
-pub index-mut-requires : goal.index-mut-requires
-index-mut-requires c =
+pub index_mut-requires : goal.index_mut-requires
+index_mut-requires c =
     let at = inside c.args.self.now c.args.deadline c.args.place c.requires.new c.requires.coming in
     let within : c.args.place < length (vec_items c.args.self.now.spans) = at.place in
     search rules
@@ -44,8 +44,8 @@ insert-requires c =
     let within : c.args.place < length (vec_items c.args.self.now.spans) = at.place in
     search rules
 
-pub invariant-of-self : goal.invariant-of-self
-invariant-of-self c =
+pub invariant_of-self : goal.invariant_of-self
+invariant_of-self c =
     let book = c.args.self.now in
     let items : vec_items c.insert.new.self
     ≡ insert (set (vec_items book.spans) c.args.place c.right-part.result) c.args.place c.left-part.result =
@@ -63,13 +63,13 @@ pub returns : goal.returns
 returns c =
     let book = c.args.self.now in
     let items : vec_items c.insert.new.self
-    ≡ insert (set (vec_items book.spans) c.args.place c.right-part.result) c.args.place c.left-part.result =
+    ≡ insert (set (vec_items book.spans) c.args.place c.right_part.result) c.args.place c.left_part.result =
     search rules
     in
     let k =
-    split_at book c.args.deadline c.args.place c.start-start.result c.index-whole.result.now c.left-part.result
-    c.right-part.result _ c.requires.new c.requires.coming c.start-start.ensures c.index-whole.ensures
-    (span_is c.left-part.result _ _ c.left-part.ensures.end c.left-part.ensures.spare)
-    (span_is c.right-part.result _ _ c.right-part.ensures.end c.right-part.ensures.spare) items
+    split_at book c.args.deadline c.args.place c.start-start.result c.index-whole.result.now c.left_part.result
+    c.right_part.result _ c.requires.new c.requires.coming c.start-start.ensures c.index-whole.ensures
+    (span_is c.left_part.result _ _ c.left_part.ensures.end c.left_part.ensures.spare)
+    (span_is c.right_part.result _ _ c.right_part.ensures.end c.right_part.ensures.spare) items
     in
     ap (with_boundaries (slot_meaning book)) k.tells

@@ -3,8 +3,8 @@ use Rattle.std.proofs.lemmas.Int.{ints, clamps, to_z-of_z}
 use Rattle.slot_book.proofs.Fits.{between_fits}
 use Rattle.slot_book.proofs.span.Span.carried_on.Goals as goal
 
-pub overflow-sub-result : goal.overflow-sub-result
-overflow-sub-result c =
+pub overflow_sub-result : goal.overflow_sub-result
+overflow_sub-result c =
     let f : SFits w32 c.below-nought.result = search rules in
     let g : SFits w32 c.below-nought-2.result = search rules in
     simp to_z-of_z
@@ -13,7 +13,7 @@ overflow-sub-result c =
 
 pub returns : goal.returns
 returns c =
-    let f : SFits w32 c.below-nought.result = search rules in
-    let g : SFits w32 c.below-nought-2.result = search rules in
-    let h : SFits w32 (c.below-nought.result -ℤ c.below-nought-2.result) = search rules in
+    let f : SFits w32 c.below_nought.result = search rules in
+    let g : SFits w32 c.below_nought-2.result = search rules in
+    let h : SFits w32 (c.below_nought.result -ℤ c.below_nought-2.result) = search rules in
     simp to_z-of_z (omega (arith, ints, clamps))
