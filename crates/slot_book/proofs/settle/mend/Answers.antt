@@ -20,16 +20,16 @@ used-requires c =
 pub overflow_sub-due : goal.overflow_sub-due
 overflow_sub-due c =
     let at = turn_before _ _ _ _ _ _ _ _ c.loop-place.invariant c.loop-place-test.true c.requires.records c.requires.order.1 in
-    omega (arith, ints, at.law, c.start-of.ensures, c.used.ensures)
+    omega (arith, ints, at.law, c.start_of.ensures, c.used.ensures)
 
 pub overflow_add-left : goal.overflow_add-left
 overflow_add-left c =
     let at = turn_before _ _ _ _ _ _ _ _ c.loop-place.invariant c.loop-place-test.true c.requires.records c.requires.order.1 in
     let left =
-    left_is _ _ _ _ _ _ _ _ _ _ _ at c.start-of.ensures c.used.ensures c.saturating-sub-left.ensures
+    left_is _ _ _ _ _ _ _ _ _ _ _ at c.start_of.ensures c.used.ensures c.saturating_sub-left.ensures
     (c.loop-place.invariant.less c.loop-place-test.true)
     in
-    let small : c.saturating-sub-left.result + c.loop-place.after ≤ 1000000 = omega (arith, left.1, at.early) in
+    let small : c.saturating_sub-left.result + c.loop-place.after ≤ 1000000 = omega (arith, left.1, at.early) in
     search rules
 
 pub using-mended-requires : goal.using-mended-requires

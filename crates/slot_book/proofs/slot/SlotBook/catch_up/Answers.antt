@@ -9,12 +9,12 @@ use Rattle.slot_book.proofs.slot.SlotBook.catch_up.Goals as goal
 pub overflow_sub-first_end : goal.overflow_sub-first_end
 overflow_sub-first_end c =
     let book = c.args.self.now in
-    omega (arith, c.first-end.ensures, (first_end_later book.clock (slot_boundaries book) book.horizon book.ordered).0)
+    omega (arith, c.first_end.ensures, (first_end_later book.clock (slot_boundaries book) book.horizon book.ordered).0)
 
 pub returns-then-slots-first_end : goal.returns-then-slots-first_end
 returns-then-slots-first_end c =
     let book = c.args.self.now in
-    let past = lt-leb (book.clock + c.args.slots) (first_end book.clock (slot_boundaries book)) (omega (arith, c.first-end.ensures, c.if-slots-first-end.true)) in
+    let past = lt-leb (book.clock + c.args.slots) (first_end book.clock (slot_boundaries book)) (omega (arith, c.first_end.ensures, c.if-slots-first_end.true)) in
     record { answer = rw past refl; book = rw past refl }
 
 pub overflow_add-clock : goal.overflow_add-clock
@@ -22,7 +22,7 @@ overflow_add-clock c =
     let book = c.args.self.now in
     let ends = first_end_later book.clock (slot_boundaries book) book.horizon book.ordered in
     let small : book.clock + c.args.slots ≤ 1000000 =
-    omega (arith, ends.0, ends.1, c.first-end.ensures, c.if-slots-first-end.false, book.ranged)
+    omega (arith, ends.0, ends.1, c.first_end.ensures, c.if-slots-first_end.false, book.ranged)
     in
     search rules
 
@@ -41,11 +41,11 @@ invariant_of-self c =
     let book = c.args.self.now in
     let ends = first_end_later book.clock (slot_boundaries book) book.horizon book.ordered in
     let within : book.clock + c.args.slots ≤ first_end book.clock (slot_boundaries book) =
-    omega (arith, ends.0, c.first-end.ensures, c.if-slots-first-end.false)
+    omega (arith, ends.0, c.first_end.ensures, c.if-slots-first_end.false)
     in
-    let mended = mended_items book c.args.slots c.args.served.now _ _ (search rules) c.mend.ensures c.deref-mut.ensures.value in
-    let k = catches_up book c.args.slots c.args.served.now _ _ within mended c.drop-ended.ensures.items in
-    (k.keeps.fair, (k.keeps.ordered, (k.keeps.bounded, (book.ranged, (search rules, (search rules, tt))))))
+    let mended = mended_items book c.args.slots c.args.served.now _ _ (search rules) c.mend.ensures c.deref_mut.ensures.value in
+    let k = catches_up book c.args.slots c.args.served.now _ _ within mended c.drop_ended.ensures.items in
+    record { fair = k.keeps.fair; ordered = k.keeps.ordered; bounded = k.keeps.bounded; ranged = book.ranged; few = search rules; room = search rules }
 
 pub returns : goal.returns
 returns c =
@@ -55,7 +55,7 @@ returns c =
     omega (arith, ends.0, c.first_end.ensures, c.if-slots-first_end.false)
     in
     let mended = mended_items book c.args.slots c.args.served.now _ _ (search rules) c.mend.ensures c.deref_mut.ensures.value in
-    let k = catches_up book c.args.slots c.args.served.now _ _ within mended c.drop-ended.ensures.items in
+    let k = catches_up book c.args.slots c.args.served.now _ _ within mended c.drop_ended.ensures.items in
     let fit = le-leb (book.clock + c.args.slots) (first_end book.clock (slot_boundaries book)) within in
     record {
       answer = rw fit refl;

@@ -31,9 +31,9 @@ invariant_of-self c =
     let book = c.args.self.now in
     let few : c.args.demand ≤ 1000000 = due_small book c.args.deadline c.args.place c.args.demand c.requires.stands c.requires.owed in
     let amount : to_z w32 c.args.demand ≡ pos c.args.demand = omega (arith, ints) in
-    let items = carried_items book.spans _ _ _ _ _ (search rules) c.carry.ensures.after amount c.deref-mut.ensures.value in
+    let items = carried_items book.spans _ _ _ _ _ (search rules) c.carry.ensures.after amount c.deref_mut.ensures.value in
     let k = forgiven book c.args.deadline c.args.place c.args.demand _ c.requires.stands c.requires.owed items in
-    (k.keeps.fair, (k.keeps.ordered, (k.keeps.bounded, (book.ranged, (search rules, (search rules, tt))))))
+    record { fair = k.keeps.fair; ordered = k.keeps.ordered; bounded = k.keeps.bounded; ranged = book.ranged; few = search rules; room = search rules }
 
 pub returns : goal.returns
 returns c =

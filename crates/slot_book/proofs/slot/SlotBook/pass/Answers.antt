@@ -35,8 +35,8 @@ pub invariant_of-self : goal.invariant_of-self
 invariant_of-self c =
     let book = c.args.self.now in
     let less = span_is c.changed.result _ _ c.changed.ensures.end c.changed.ensures.spare in
-    let k = passes_none book c.index.result.now c.changed.result _ c.if-self.false c.index.ensures less c.drop-ended.ensures.items in
-    (k.keeps.fair, (k.keeps.ordered, (k.keeps.bounded, (book.ranged, (search rules, (search rules, tt))))))
+    let k = passes_none book c.index.result.now c.changed.result _ c.if-self.false c.index.ensures less c.drop_ended.ensures.items in
+    record { fair = k.keeps.fair; ordered = k.keeps.ordered; bounded = k.keeps.bounded; ranged = book.ranged; few = search rules; room = search rules }
 
 pub returns : goal.returns
 returns c =

@@ -17,8 +17,8 @@ overflow_add-self c =
 pub invariant_of-self : goal.invariant_of-self
 invariant_of-self c =
     let book = c.args.self.now in
-    let k = passes_first book c.args.deadline _ c.requires.first c.requires.owed c.drop-ended.ensures.items in
-    (k.keeps.fair, (k.keeps.ordered, (k.keeps.bounded, (book.ranged, (search rules, (search rules, tt))))))
+    let k = passes_first book c.args.deadline _ c.requires.first c.requires.owed c.drop_ended.ensures.items in
+    record { fair = k.keeps.fair; ordered = k.keeps.ordered; bounded = k.keeps.bounded; ranged = book.ranged; few = search rules; room = search rules }
 
 pub returns : goal.returns
 returns c =

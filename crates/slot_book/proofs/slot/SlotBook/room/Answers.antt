@@ -21,8 +21,8 @@ overflow_add-result c =
     let lt = rw same at c.loop-span-test.true in
     let le = rw same at c.if-deadline-span.true in
     let sum = sum_ends book c.args.deadline _ _ _ c.loop-span.invariant lt le in
-    let part = rw same at c.free-before.ensures in
-    let all : c.loop-span.room + c.free-before.result ≤ 1000000 =
+    let part = rw same at c.free_before.ensures in
+    let all : c.loop-span.room + c.free_before.result ≤ 1000000 =
     omega (arith, headroom_small book c.args.deadline (omega (arith, c.requires)))
     in
     search rules

@@ -48,16 +48,16 @@ pub invariant_of-self : goal.invariant_of-self
 invariant_of-self c =
     let book = c.args.self.now in
     let items : vec_items c.insert.new.self
-    ≡ insert (set (vec_items book.spans) c.args.place c.right-part.result) c.args.place c.left-part.result =
+    ≡ insert (set (vec_items book.spans) c.args.place c.right_part.result) c.args.place c.left_part.result =
     search rules
     in
     let k =
-    split_at book c.args.deadline c.args.place c.start-start.result c.index-whole.result.now c.left-part.result
-    c.right-part.result _ c.requires.new c.requires.coming c.start-start.ensures c.index-whole.ensures
-    (span_is c.left-part.result _ _ c.left-part.ensures.end c.left-part.ensures.spare)
-    (span_is c.right-part.result _ _ c.right-part.ensures.end c.right-part.ensures.spare) items
+    split_at book c.args.deadline c.args.place c.start-start.result c.index-whole.result.now c.left_part.result
+    c.right_part.result _ c.requires.new c.requires.coming c.start-start.ensures c.index-whole.ensures
+    (span_is c.left_part.result _ _ c.left_part.ensures.end c.left_part.ensures.spare)
+    (span_is c.right_part.result _ _ c.right_part.ensures.end c.right_part.ensures.spare) items
     in
-    (k.keeps.fair, (k.keeps.ordered, (k.keeps.bounded, (book.ranged, (search rules, (search rules, tt))))))
+    record { fair = k.keeps.fair; ordered = k.keeps.ordered; bounded = k.keeps.bounded; ranged = book.ranged; few = search rules; room = search rules }
 
 pub returns : goal.returns
 returns c =

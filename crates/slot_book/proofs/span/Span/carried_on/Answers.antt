@@ -5,10 +5,10 @@ use Rattle.slot_book.proofs.span.Span.carried_on.Goals as goal
 
 pub overflow_sub-result : goal.overflow_sub-result
 overflow_sub-result c =
-    let f : SFits w32 c.below-nought.result = search rules in
-    let g : SFits w32 c.below-nought-2.result = search rules in
+    let f : SFits w32 c.below_nought.result = search rules in
+    let g : SFits w32 c.below_nought-2.result = search rules in
     simp to_z-of_z
-    (between_fits (c.below-nought.result -ℤ c.below-nought-2.result) 3000000 (omega (arith, ints, clamps))
+    (between_fits (c.below_nought.result -ℤ c.below_nought-2.result) 3000000 (omega (arith, ints, clamps))
     (omega (arith, ints, clamps)) (lit< tt))
 
 pub returns : goal.returns
