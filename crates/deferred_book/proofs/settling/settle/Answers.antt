@@ -10,10 +10,10 @@ use Rattle.deferred_book.proofs.settling.settle.Goals as goal
 pub returns : goal.returns
 returns c =
     let before = c.args.settled.now in
-    let settled = c.catch-up.new.self in
+    let settled = c.catch_up.new.self in
     let notes = c.args.notes.now in
     let caught : slot_meaning settled ≡ after_notes (slot_meaning before) notes =
-    c.catch-up.ensures.book ∙ caught_up_left (slot_meaning before) notes.slots _ c.requires
+    c.catch_up.ensures.book ∙ caught_up_left (slot_meaning before) notes.slots _ c.requires
     ∙ ap (caught_up (slot_meaning before) notes.slots) (served_written notes.slots notes.noted)
     in
     record {

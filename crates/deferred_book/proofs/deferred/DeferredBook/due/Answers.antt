@@ -5,4 +5,4 @@ use Rattle.deferred_book.proofs.deferred.DeferredBook.due.Goals as goal
 pub returns : goal.returns
 returns c =
     let left = due_is c.args.self.now c.args.place in
-    rw (c.saturating-sub.ensures, c.due.ensures, c.served.ensures) (sym left)
+    rw (c.saturating_sub.ensures, c.due.ensures, c.served.ensures) (sym left)

@@ -7,8 +7,8 @@ due-requires c =
     let at = stands_still c.args.self.now c.args.deadline c.in-Ok.place c.in-Ok.ensures in
     place_below c.args.self.now c.args.deadline c.in-Ok.place at
 
-pub returns-in-default : goal.returns-in-default
-returns-in-default c = (refl, lacks_still c.args.self.now c.args.deadline c.in-default.ensures.new)
+pub returns-in_default : goal.returns-in_default
+returns-in_default c = (refl, lacks_still c.args.self.now c.args.deadline c.in_default.ensures.new)
 
 pub returns-then-due-lt1 : goal.returns-then-due-lt1
 returns-then-due-lt1 c =

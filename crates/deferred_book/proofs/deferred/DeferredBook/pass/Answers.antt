@@ -8,20 +8,19 @@ use Rattle.deferred_book.proofs.deferred.DeferredBook.pass.Goals as goal
 pub note-requires : goal.note-requires
 note-requires c = record { few = omega (arith, slot_more c.args.self.now c.requires.before); place = c.requires.place }
 
-pub overflow-add-clock : goal.overflow-add-clock
-overflow-add-clock c =
+pub overflow_add-clock : goal.overflow_add-clock
+overflow_add-clock c =
     let more = slot_more c.args.self.now c.requires.before in
     let small : c.clock.result + c.note.new.self.slots ≤ longest_horizon =
     omega (arith, more, c.clock.ensures, c.note.ensures.slots)
     in
     search rules
 
-pub invariant-of-self-else-clock-self : goal.invariant-of-self-else-clock-self
-invariant-of-self-else-clock-self c = (
-  next_within c.args.self.now c.note.new.self c.note.ensures.slots c.requires.before
-      (λ e. c.if-clock-self.false (omega (arith, e, c.clock.ensures, c.first-end.ensures))),
-  tt,
-)
+pub invariant_of-self-else-clock-self : goal.invariant_of-self-else-clock-self
+invariant_of-self-else-clock-self c = record {
+  within = next_within c.args.self.now c.note.new.self c.note.ensures.slots c.requires.before
+      (λ e. c.if-clock-self.false (omega (arith, e, c.clock.ensures, c.first_end.ensures)));
+}
 
 pub returns-then-clock-self : goal.returns-then-clock-self
 returns-then-clock-self c =

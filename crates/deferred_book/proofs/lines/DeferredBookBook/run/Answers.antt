@@ -18,10 +18,10 @@ pass-requires c =
 pub pass-requires-in-Some : goal.pass-requires-in-Some
 pass-requires-in-Some c =
     let book = c.args.self.now in
-    let at = c.in-ok-place.ensures.0 in
+    let at = c.in_ok-place-in-Some.ensures.0 in
     record {
-      before = before_horizon book c.in-Some.deadline c.in-ok-place.place at;
-      place = place_below book c.in-Some.deadline c.in-ok-place.place at;
+      before = before_horizon book c.in-Some.deadline c.in_ok-place-in-Some.place at;
+      place = place_below book c.in-Some.deadline c.in_ok-place-in-Some.place at;
     }
 
 pub returns-else-clock-horizon : goal.returns-else-clock-horizon
@@ -34,12 +34,12 @@ returns-else-clock-horizon c =
     in
     record { answer = done.0; book = done.1 }
 
-pub returns-in-ok-place : goal.returns-in-ok-place
-returns-in-ok-place c =
+pub returns-in_ok-place-in-Some : goal.returns-in_ok-place-in-Some
+returns-in_ok-place-in-Some c =
     let book = c.args.self.now in
     let d = c.in-Some.deadline in
-    let place = c.in-ok-place.place in
-    let owned = c.in-ok-place.ensures in
+    let place = c.in_ok-place-in-Some.place in
+    let owned = c.in_ok-place-in-Some.ensures in
     let done =
     run_passed (deferred_meaning book) (deferred_meaning c.pass-in-Some.new.self) (Some d) c.args.owner c.in-Some.is
     (not_from_true (is_due (deferred_meaning book) d 1) owned.1) (before_horizon book d place owned.0)

@@ -4,5 +4,5 @@ use Rattle.terms.specs.Limits.{most_boundaries}
 use Rattle.deferred_book.proofs.Served.{none_counted}
 use Rattle.deferred_book.proofs.notes.Notes.none.Goals as goal
 
-pub invariant-of-result : goal.invariant-of-result
-invariant-of-result c = (length-replicate {A = ℕ} most_boundaries 0, (none_counted most_boundaries, tt))
+pub invariant_of-result : goal.invariant_of-result
+invariant_of-result c = record { each = length-replicate {A = ℕ} most_boundaries 0; counted = none_counted most_boundaries }
