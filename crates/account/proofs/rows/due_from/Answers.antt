@@ -3,8 +3,8 @@ use Rattle.std.specs.Int.{int_min}
 use Rattle.std.proofs.lemmas.Int.{ints, clamps, to_z-of_z}
 use Rattle.account.proofs.rows.due_from.Goals as goal
 
-pub overflow-add-result : goal.overflow-add-result
-overflow-add-result c =
+pub overflow_add-result : goal.overflow_add-result
+overflow_add-result c =
     let f : SFits w64 c.from.result = search rules in
     let g : SFits w64 c.from-2.result = search rules in
     let h : SFits w64 c.from-3.result = search rules in

@@ -4,9 +4,9 @@ use Rattle.account.proofs.worked.account.Goals as goal
 
 pub returns : goal.returns
 returns g c =
-    day_ends (g.B.Book.meaning c.fill.new.book) (g.B.Book.meaning c.write-headroom.new.book)
-    (g.B.Book.meaning c.write-orders.new.book) (g.B.Book.meaning c.write-slots.new.book)
-    (g.B.Book.meaning c.write-intervals-2.new.book) c.in-ok-fill.ensures
-    (c.in-ok-write-headroom.ensures ∙ c.in-ok-write-intervals.ensures)
-    c.in-ok-write-orders.ensures c.in-ok-write-slots.ensures
-    c.in-ok-write-intervals-2.ensures
+    day_ends (g.B.Book.meaning c.fill.new.book) (g.B.Book.meaning c.write_headroom.new.book)
+    (g.B.Book.meaning c.write_orders.new.book) (g.B.Book.meaning c.write_slots.new.book)
+    (g.B.Book.meaning c.write_intervals-2.new.book) c.in_ok-fill.ensures
+    (c.in_ok-write_headroom.ensures ∙ c.in_ok-write_intervals.ensures)
+    c.in_ok-write_orders.ensures c.in_ok-write_slots.ensures
+    c.in_ok-write_intervals-2.ensures

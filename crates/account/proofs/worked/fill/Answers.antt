@@ -4,7 +4,7 @@ use Rattle.account.proofs.worked.fill.Goals as goal
 pub loop-demand-preserved : goal.loop-demand-preserved
 loop-demand-preserved g c =
     filled_more _ _ _ _ c.args.demands.now c.loop-demand.demand-index _ c.loop-demand-test.true
-    c.loop-demand.invariant c.in-ok-cut.ensures.book c.in-ok-owe.ensures.book
+    c.loop-demand.invariant c.in_ok-cut.ensures.book c.in_ok-owe.ensures.book
 
 pub returns : goal.returns
 returns g c =

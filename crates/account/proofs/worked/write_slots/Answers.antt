@@ -4,7 +4,7 @@ use Rattle.account.proofs.worked.write_slots.Goals as goal
 pub loop-owner-preserved : goal.loop-owner-preserved
 loop-owner-preserved g c =
     ran_more _ _ _ c.args.owners.now c.loop-owner.owner-index _ c.loop-owner-test.true c.loop-owner.invariant
-    c.in-ok-run.ensures.book
+    c.in_ok-run.ensures.book
 
 pub returns : goal.returns
 returns g c =

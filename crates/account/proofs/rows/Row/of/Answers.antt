@@ -10,29 +10,29 @@ use Rattle.account.proofs.rows.Row.of.Goals as goal
 pub returns : goal.returns
 returns g c =
     let m : Meaning = g.B.Book.meaning c.args.book.now in
-    let z : ℤ = c.in-ok-spare.spare in
-    let next : ℤ = c.in-ok-next.next in
-    let fits : SFits w32 c.in-ok-spare.spare = search rules in
-    let fits_next : SFits w32 c.in-ok-next.next = search rules in
-    let fits-due : SFits w64 c.due-from-due.result = search rules in
-    let says = c.in-ok-spare.ensures.answer in
+    let z : ℤ = c.in_ok-spare.spare in
+    let next : ℤ = c.in_ok-next.next in
+    let fits : SFits w32 c.in_ok-spare.spare = search rules in
+    let fits_next : SFits w32 c.in_ok-next.next = search rules in
+    let fits-due : SFits w64 c.due_from-due.result = search rules in
+    let says = c.in_ok-spare.ensures.answer in
     let behind : ◌≡◌ {A = Said ℤ} (value next) (value (spare m (c.args.interval + 1))) =
-    c.in-ok-next.ensures.answer
-    ∙ ap (λ x. value (spare x (c.args.interval + 1))) c.in-ok-spare.ensures.same
+    c.in_ok-next.ensures.answer
+    ∙ ap (λ x. value (spare x (c.args.interval + 1))) c.in_ok-spare.ensures.same
     in
-    let due : c.due-from-due.result ≡ due_from c.saturating-sub-width.result z next =
-    simp to_z-of_z at c.due-from-due.ensures
+    let due : c.due_from-due.result ≡ due_from c.saturating_sub-width.result z next =
+    simp to_z-of_z at c.due_from-due.ensures
     in
-    let width = c.saturating-sub-width.ensures in
+    let width = c.saturating_sub-width.ensures in
     record {
       answer =
-          rw (to_z-of_z w64 c.due-from-due.result fits-due, to_z-of_z w32 z fits)
-          (row_answered m c.args.interval c.args.from c.args.to z next c.due-from-due.result
-          c.saturating-sub-width.result says behind width due);
-      same = c.in-ok-next.ensures.same ∙ c.in-ok-spare.ensures.same;
+          rw (to_z-of_z w64 c.due_from-due.result fits-due, to_z-of_z w32 z fits)
+          (row_answered m c.args.interval c.args.from c.args.to z next c.due_from-due.result
+          c.saturating_sub-width.result says behind width due);
+      same = c.in_ok-next.ensures.same ∙ c.in_ok-spare.ensures.same;
       due =
           λ start end le.
-          rw (to_z-of_z w64 c.due-from-due.result fits-due)
-          (due_held m c.args.interval c.args.from c.args.to z next c.due-from-due.result
-          c.saturating-sub-width.result says behind width due start end le);
+          rw (to_z-of_z w64 c.due_from-due.result fits-due)
+          (due_held m c.args.interval c.args.from c.args.to z next c.due_from-due.result
+          c.saturating_sub-width.result says behind width due start end le);
     }
