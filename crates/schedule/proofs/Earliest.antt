@@ -6,6 +6,7 @@ use Rattle.std.proofs.lemmas.List.Sums.{get_or-le-sum_by}
 use Rattle.std.proofs.lemmas.Bool.{cases_lt, cases_Bool, both_ways, eqb-true, eqb-false, eq-eqb, ne_eqb, le-leb, lt-leb}
 use Rattle.std.proofs.lemmas.Bool.Decides.{nat_tests}
 use Rattle.schedule.specs.declared.job.Job.{Job}
+use Rattle.schedule.specs.declared.soft.SoftOrder.{SoftOrder}
 use Rattle.schedule.specs.Earliest.{EarliestOwner, jobs_at, EarliestFirst, EarliestFirstExists, EarliestFirstKeeps}
 use Rattle.schedule.specs.Schedules.{Commitments, WellFormed, Schedule, Keeps, GetsItsDemand, one_if, went_to, slots, given, job_numbers, order_numbers}
 use Rattle.schedule.specs.Slot.{with_left, job_after, jobs_after, FitsAfter, Ready, DueFirst}
@@ -229,5 +230,11 @@ earliest_first_keeps c formed fits s earliest =
     let served =
     earliest_serves c.horizon s c.clock c.horizon c.jobs (order_numbers c.waiting) (omega arith)
     formed.0 formed.1 fits earliest
-    in
-    ?
+    in (
+      All-weaker (λ j. GetsItsDemand s c.clock c.horizon j) (λ j. 1 ≤ j.left → GetsItsDemand s c.clock c.horizon j)
+          (λ j gets _. gets) c.jobs served.0,
+      All-weaker (λ (o : SoftOrder). given s o.number c.clock c.horizon ≡ 0)
+          (λ (o : SoftOrder). given s o.number c.clock c.horizon ≤ o.left)
+          (λ o none. omega (arith, none)) c.waiting
+          (all_mapped (λ n. given s n c.clock c.horizon ≡ 0) (λ (o : SoftOrder). o.number) c.waiting served.1),
+    )
