@@ -7,7 +7,7 @@ use Rattle.terms.specs.Answers.{value, refuse, mapped}
 use Rattle.capacity.specs.Calls.{spare_says}
 use Rattle.capacity.specs.Intervals.{start_at, boundary_at}
 use Rattle.capacity.specs.Meaning.{Meaning}
-use Rattle.capacity.specs.Spare.{spare, spares}
+use Rattle.capacity.specs.Spare.{spare}
 use Rattle.capacity.proofs.Intervals.{spare_from_next}
 use Rattle.account.specs.Rows.{due_from, row_says}
 

@@ -1,10 +1,10 @@
 -- From `clear` on the boundaries rise from the clock to the horizon, whatever is called.
-use Rattle.std.proofs.Common.{◌≡◌, ℕ, ◌+◌, ◌-◌, ◌<◌, ◌≤◌, Bool, true, false, cond, not, ◌&&◌, eqb, ltb, leb, List, [], length, Some, None, Option, refl, arith}
+use Rattle.std.proofs.Common.{◌≡◌, ℕ, ◌+◌, ◌-◌, ◌<◌, Bool, true, false, cond, not, ◌&&◌, eqb, ltb, leb, List, [], length, Some, None, Option, refl, arith}
 use Rattle.std.proofs.lemmas.Bool.{and_parts, ltb-true, leb-true, eqb-false, eq-eqb, not-false, cond_both}
 use Rattle.terms.specs.Answers.{Said, value, refuse, after}
 use Rattle.terms.specs.Limits.{most_boundaries}
 use Rattle.capacity.specs.declared.boundary.Boundary.{Boundary}
-use Rattle.capacity.specs.Calls.{is_boundary, due_at, is_due, unowned, served, to_come, with_due, with_boundary, with_boundaries, passed, cleared, cut_leaves, owe_leaves, forgive_leaves, run_leaves}
+use Rattle.capacity.specs.Calls.{is_boundary, due_at, is_due, unowned, served, to_come, with_due, with_boundary, with_boundaries, passed, cut_leaves, owe_leaves, forgive_leaves, run_leaves}
 use Rattle.capacity.specs.Meaning.{Meaning}
 use Rattle.capacity.specs.Reached.{Reached, by_clear, by_cut, by_owe, by_forgive, by_run}
 use Rattle.capacity.specs.Slack.{rises, Ordered}

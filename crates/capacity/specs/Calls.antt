@@ -1,6 +1,6 @@
 -- The lines of a book: for each call what it says, and what the book means afterwards. After a refusal that is what it
 -- meant before.
-use Rattle.std.specs.Prelude.{ℕ, ◌+◌, ◌-◌, Bool, true, false, cond, not, ◌&&◌, ◌||◌, leb, List, [], ◌∷◌, length, ℤ, pos, Some, None, Option, ◌==◌, int_le, nat_le, nat_lt}
+use Rattle.std.specs.Prelude.{ℕ, ◌+◌, ◌-◌, Bool, false, cond, not, ◌&&◌, ◌||◌, leb, List, [], ◌∷◌, length, ℤ, pos, Some, None, Option, ◌==◌, int_le, nat_le, nat_lt}
 use Rattle.terms.specs.Answers.{Said, value, refuse, after, mapped}
 use Rattle.terms.specs.Limits.{longest_horizon, most_boundaries}
 use Rattle.capacity.specs.declared.boundary.Boundary.{Boundary}

@@ -1,7 +1,6 @@
 -- The worked figures, in one list. Each is a fact about the definitions that the contracts of the code cite.
-use Rattle.std.specs.Prelude.{◌≡◌, ℕ, List, [], ◌∷◌, ℤ, pos, negsuc, Some, None}
+use Rattle.std.specs.Prelude.{◌≡◌, List, [], ◌∷◌, ℤ, pos, negsuc, Some, None}
 use Rattle.terms.specs.Answers.{value, refused}
-use Rattle.capacity.specs.declared.boundary.Boundary.{Boundary}
 use Rattle.capacity.specs.Calls.{cleared, owe_says}
 use Rattle.capacity.specs.Filled.{filled, ran}
 use Rattle.capacity.specs.Meaning.{Meaning}

@@ -1,15 +1,14 @@
 -- A slot has one owner: so where a schedule keeps the guarantees, what must lie in a window is no more than its slots.
-use Rattle.std.proofs.Common.{◌≡◌, ℕ, zero, suc, ◌+◌, ◌-◌, ◌<◌, ◌≤◌, max, Bool, true, false, cond, ◌&&◌, ◌||◌, eqb, leb, ◌⊎◌, List, [], ◌∷◌, ◌++◌, map, Some, None, sum_by, Option, sym, refl, ap, ◌∙◌, subst, inl, inr, ⊎_elim, arith}
+use Rattle.std.proofs.Common.{◌≡◌, ℕ, zero, suc, ◌+◌, ◌-◌, ◌<◌, ◌≤◌, max, true, false, cond, ◌&&◌, eqb, leb, List, [], ◌∷◌, ◌++◌, sum_by, Option, sym, refl, ap, ⊎_elim, arith}
 use Rattle.std.specs.List.{IsDistinct, AllByRecursion as All}
 use Rattle.std.proofs.ByRecursion.{All-weaker}
 use Rattle.std.proofs.lemmas.List.Sums.{sum_by-cons}
 use Rattle.std.proofs.lemmas.Bool.{cases_lt, cases_Bool, and_parts, leb-true, le-leb, lt-leb, ne_eqb, eqb-false}
-use Rattle.std.proofs.lemmas.Bool.Decides.{nat_tests}
 use Rattle.schedule.specs.declared.job.Job.{Job}
-use Rattle.schedule.specs.Schedules.{Commitments, WellFormed, Schedule, Keeps, GetsItsDemand, went_to, went_to_any, one_if, slots, given, soft_slots, job_numbers, order_numbers}
+use Rattle.schedule.specs.Schedules.{Commitments, WellFormed, Schedule, Keeps, GetsItsDemand, went_to, went_to_any, one_if, slots, given, job_numbers, order_numbers}
 use Rattle.schedule.specs.Slot.{due_by, SoftWithinSlack}
 use Rattle.schedule.specs.Windows.{lies_in, need, demand, NoWindowOverfull}
-use Rattle.schedule.proofs.Slots.{owner_is, went, slots_grow, slots_inside, slots_none}
+use Rattle.schedule.proofs.Slots.{owner_is, slots_grow, slots_inside}
 use Rattle.schedule.proofs.Totals.{sums_le, sums_add, sums_map, sums_none, all_of, all_left, all_right}
 
 -- the laws of a list without repeats

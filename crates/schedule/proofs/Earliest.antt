@@ -1,20 +1,19 @@
 -- Earliest deadline first keeps the guarantees unless a window is overfull: by one slot after another, up to the horizon.
-use Rattle.std.proofs.Common.{◌≡◌, ℕ, zero, suc, ◌+◌, ◌-◌, ◌<◌, ◌≤◌, max, Bool, true, false, cond, ◌&&◌, eqb, leb, ◌⊎◌, List, [], ◌∷◌, ◌++◌, map, Some, None, sum_by, Option, sym, refl, ap, ◌∙◌, subst, inl, inr, ⊎_elim, arith}
+use Rattle.std.proofs.Common.{◌≡◌, ℕ, zero, suc, ◌+◌, ◌-◌, ◌<◌, ◌≤◌, max, true, false, eqb, List, [], ◌∷◌, ◌++◌, Some, None, Option, sym, refl, ap, ◌∙◌, subst, ⊎_elim, arith}
 use Rattle.std.specs.List.{IsDistinct, ContainsAt as Has, AllByRecursion as All}
 use Rattle.std.proofs.ByRecursion.{All-weaker, All-map, all-has, all_has_itself}
 use Rattle.std.proofs.lemmas.List.Sums.{get_or-le-sum_by}
-use Rattle.std.proofs.lemmas.Bool.{cases_lt, cases_Bool, both_ways, eqb-true, eqb-false, eq-eqb, ne_eqb, le-leb, lt-leb}
-use Rattle.std.proofs.lemmas.Bool.Decides.{nat_tests}
+use Rattle.std.proofs.lemmas.Bool.{cases_lt, cases_Bool, both_ways, eqb-true, eqb-false, ne_eqb, le-leb}
 use Rattle.schedule.specs.declared.job.Job.{Job}
 use Rattle.schedule.specs.declared.soft.SoftOrder.{SoftOrder}
-use Rattle.schedule.specs.Earliest.{EarliestOwner, jobs_at, EarliestFirst, EarliestFirstExists, EarliestFirstKeeps}
-use Rattle.schedule.specs.Schedules.{Commitments, WellFormed, Schedule, Keeps, GetsItsDemand, one_if, went_to, slots, given, job_numbers, order_numbers}
-use Rattle.schedule.specs.Slot.{with_left, job_after, jobs_after, FitsAfter, Ready, DueFirst}
+use Rattle.schedule.specs.Earliest.{EarliestOwner, jobs_at, EarliestFirstKeeps}
+use Rattle.schedule.specs.Schedules.{Commitments, Schedule, GetsItsDemand, one_if, went_to, given, job_numbers, order_numbers}
+use Rattle.schedule.specs.Slot.{with_left, job_after, jobs_after, FitsAfter, Ready}
 use Rattle.schedule.specs.Windows.{need, demand, NoWindowOverfull}
 use Rattle.schedule.proofs.Counting.{distinct_first, distinct_rest}
-use Rattle.schedule.proofs.Slot.{ready_or_not, slot_for_due_first, slot_while_none_ready}
-use Rattle.schedule.proofs.Slots.{owner_is, went, slots_first, slots_none}
-use Rattle.schedule.proofs.Totals.{has_cases, has_first, has_later, all_of, all_both, all_mapped, all_left, all_right}
+use Rattle.schedule.proofs.Slot.{slot_for_due_first, slot_while_none_ready}
+use Rattle.schedule.proofs.Slots.{went, slots_first, slots_none}
+use Rattle.schedule.proofs.Totals.{has_cases, all_of, all_both, all_mapped, all_left, all_right}
 
 -- what a job has left fits between its first slot and its deadline
 pub left_fits :

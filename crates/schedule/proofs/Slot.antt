@@ -1,12 +1,12 @@
 -- One slot: to whom it can go so that no window is overfull afterwards.
-use Rattle.std.proofs.Common.{◌≡◌, ℕ, zero, suc, ◌+◌, ◌-◌, ◌<◌, ◌≤◌, max, Bool, true, false, cond, ◌&&◌, eqb, leb, ◌⊎◌, List, [], ◌∷◌, map, Some, None, sum_by, Option, sym, refl, ap, ◌∙◌, subst, inl, inr, ⊎_elim, arith}
+use Rattle.std.proofs.Common.{◌≡◌, ℕ, ◌+◌, ◌<◌, ◌≤◌, max, cond, leb, ◌⊎◌, List, [], ◌∷◌, Some, None, Option, sym, refl, ◌∙◌, inl, inr, ⊎_elim, arith}
 use Rattle.std.specs.List.{ContainsAt as Has, AllByRecursion as All}
-use Rattle.std.proofs.ByRecursion.{All-weaker, all_has_itself}
-use Rattle.std.proofs.lemmas.Bool.{cases_lt, cases_Bool, eq-eqb, le-leb, lt-leb}
+use Rattle.std.proofs.ByRecursion.{All-weaker}
+use Rattle.std.proofs.lemmas.Bool.{cases_lt, eq-eqb, le-leb, lt-leb}
 use Rattle.std.proofs.lemmas.Bool.Decides.{nat_tests}
 use Rattle.schedule.specs.declared.job.Job.{Job}
-use Rattle.schedule.specs.Schedules.{Commitments, WellFormed, one_if, went_to}
-use Rattle.schedule.specs.Slot.{job_after, jobs_after, FitsAfter, Ready, DueFirst, due_by, Slack, SlotForDueFirst, SlotWhileSlack, SlotWhileNoneReady, TightMeansReady}
+use Rattle.schedule.specs.Schedules.{Commitments}
+use Rattle.schedule.specs.Slot.{job_after, jobs_after, FitsAfter, Ready, due_by, SlotForDueFirst, SlotWhileSlack, SlotWhileNoneReady, TightMeansReady}
 use Rattle.schedule.specs.Windows.{need, demand, NoWindowOverfull}
 use Rattle.schedule.proofs.Counting.{due_by_is}
 use Rattle.schedule.proofs.Totals.{sums_le, sums_less, sums_map, all_of, has_first, has_later}

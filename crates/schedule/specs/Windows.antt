@@ -1,5 +1,5 @@
 -- Windows, and how much must be done in each: no window is overfull exactly when some schedule keeps the guarantees.
-use Rattle.std.specs.Prelude.{ℕ, ◌+◌, ◌<◌, ◌≤◌, max, Bool, cond, ◌&&◌, ◌↔◌, List, ◌∷◌, Decides, sum_by, nat_le}
+use Rattle.std.specs.Prelude.{ℕ, ◌+◌, ◌≤◌, max, Bool, cond, ◌&&◌, ◌↔◌, List, ◌∷◌, Decides, sum_by, nat_le}
 use Rattle.schedule.specs.declared.job.Job.{Job}
 use Rattle.schedule.specs.Schedules.{Commitments, WellFormed, CanBeKept, CanBeServed}
 

@@ -7,7 +7,6 @@ use Rattle.std.proofs.lemmas.Bool.{cases_lt}
 use Rattle.capacity.specs.declared.boundary.Boundary.{Boundary}
 use Rattle.capacity.specs.Intervals.{boundary_at, start_at}
 use Rattle.capacity.specs.Noted.{unserved, first_end}
-use Rattle.capacity.specs.Spare.{spares}
 use Rattle.capacity.proofs.Noted.{length_unserved, end_unserved, due_unserved, start_unserved}
 use Rattle.capacity.proofs.Suffixes.{short_from, short_at, short_all, spare_at, fits_at}
 use Rattle.slot_book.specs.Carry.{span_at}

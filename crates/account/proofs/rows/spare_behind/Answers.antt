@@ -1,4 +1,4 @@
-use Rattle.std.proofs.Common.{◌+◌, ◌-◌, sym, refl, ap, arith}
+use Rattle.std.proofs.Common.{◌+◌, sym, refl, ap, arith}
 use Rattle.terms.specs.Answers.{value}
 use Rattle.capacity.proofs.Intervals.{spare_past}
 use Rattle.account.proofs.rows.spare_behind.Goals as goal

@@ -1,4 +1,4 @@
-use Rattle.std.proofs.Common.{◌≡◌, sym, ap, ◌∙◌, arith, rules}
+use Rattle.std.proofs.Common.{arith, rules}
 use Rattle.plain_book.proofs.Writes.{due_read, forgive_keeps}
 use Rattle.plain_book.proofs.lines.PlainBookBook.forgive.Goals as goal
 

@@ -1,6 +1,6 @@
 use Rattle.std.proofs.Common.{◌≤◌, vec_items, sym, arith, rules}
 use Rattle.capacity.proofs.Least.{rises_le}
-use Rattle.capacity.proofs.Passing.{some_left, later_stays, later_goes}
+use Rattle.capacity.proofs.Passing.{some_left, later_stays}
 use Rattle.plain_book.proofs.Passing.{pass_keeps}
 use Rattle.plain_book.proofs.plain.PlainBook.pass.Goals as goal
 

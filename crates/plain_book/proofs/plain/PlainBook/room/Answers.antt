@@ -1,4 +1,4 @@
-use Rattle.std.proofs.Common.{◌≡◌, ℕ, ◌+◌, ◌-◌, ◌≤◌, length, vec_items, sym, ◌∙◌, subst, arith, rules}
+use Rattle.std.proofs.Common.{◌≡◌, ℕ, ◌≤◌, length, vec_items, sym, ◌∙◌, subst, arith, rules}
 use Rattle.capacity.proofs.Naturals.{headroom_is_room}
 use Rattle.capacity.proofs.Suffixes.{room_from, short_all, room_all, room_from_le}
 use Rattle.plain_book.proofs.Turns.{turn}
