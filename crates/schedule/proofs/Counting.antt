@@ -1,6 +1,6 @@
 -- A slot has one owner: so where a schedule keeps the guarantees, what must lie in a window is no more than its slots.
 use Rattle.std.proofs.Common.{◌≡◌, ℕ, zero, suc, ◌+◌, ◌-◌, ◌<◌, ◌≤◌, max, true, false, cond, ◌&&◌, eqb, leb, List, [], ◌∷◌, ◌++◌, sum_by, Option, sym, refl, ap, ⊎_elim, arith}
-use Rattle.std.specs.List.{IsDistinct, AllByRecursion as All}
+use Rattle.std.specs.List.{IsDistinct, AllByRecursion}
 use Rattle.std.proofs.ByRecursion.{All-weaker}
 use Rattle.std.proofs.lemmas.List.Sums.{sum_by-cons}
 use Rattle.std.proofs.lemmas.Bool.{cases_lt, cases_Bool, and_parts, leb-true, le-leb, lt-leb, ne_eqb, eqb-false}
@@ -12,7 +12,7 @@ use Rattle.schedule.proofs.Slots.{owner_is, slots_grow, slots_inside}
 use Rattle.schedule.proofs.Totals.{sums_le, sums_add, sums_map, sums_none, all_of, all_left, all_right}
 
 -- the laws of a list without repeats
-pub distinct_first : (n : ℕ) (ns : List ℕ) → IsDistinct eqb (n ∷ ns) → All (λ m. eqb n m ≡ false) ns
+pub distinct_first : (n : ℕ) (ns : List ℕ) → IsDistinct eqb (n ∷ ns) → AllByRecursion (λ m. eqb n m ≡ false) ns
 unfolding IsDistinct
 distinct_first n ns d = d.0
 
@@ -26,7 +26,7 @@ not_other n m owner to differs =
     rw (owner_is n owner to) (ne_eqb m n (λ same. eqb-false n m differs (sym same)))
 
 none_of :
-    (n : ℕ) (ms : List ℕ) (owner : Option ℕ) → went_to n owner ≡ true → All (λ m. eqb n m ≡ false) ms →
+    (n : ℕ) (ms : List ℕ) (owner : Option ℕ) → went_to n owner ≡ true → AllByRecursion (λ m. eqb n m ≡ false) ms →
     went_to_any ms owner ≡ false
 none_of n [] owner to differ = refl
 none_of n (m ∷ ms) owner to differ = rw (not_other n m owner to differ.0) (none_of n ms owner to differ.1)

@@ -1,6 +1,6 @@
 -- Earliest deadline first keeps the guarantees unless a window is overfull: by one slot after another, up to the horizon.
 use Rattle.std.proofs.Common.{◌≡◌, ℕ, zero, suc, ◌+◌, ◌-◌, ◌<◌, ◌≤◌, max, true, false, eqb, List, [], ◌∷◌, ◌++◌, Some, None, Option, sym, refl, ap, ◌∙◌, subst, ⊎_elim, arith}
-use Rattle.std.specs.List.{IsDistinct, ContainsAt as Has, AllByRecursion as All}
+use Rattle.std.specs.List.{IsDistinct, ContainsAt as Has, AllByRecursion}
 use Rattle.std.proofs.ByRecursion.{All-weaker, All-map, all-has, all_has_itself}
 use Rattle.std.proofs.lemmas.List.Sums.{get_or-le-sum_by}
 use Rattle.std.proofs.lemmas.Bool.{cases_lt, cases_Bool, both_ways, eqb-true, eqb-false, ne_eqb, le-leb}
@@ -41,7 +41,7 @@ left_fits t js j has fits some =
 -- no later job has the number of an earlier one
 apart :
     (i : Job) (js : List Job) (ms : List ℕ) → IsDistinct eqb (job_numbers (i ∷ js) ++ ms) →
-    All (λ k. eqb i.number k.number ≡ false) js
+    AllByRecursion (λ k. eqb i.number k.number ≡ false) js
 apart i js ms distinct =
     all_mapped (λ m. eqb i.number m ≡ false) (λ k. k.number) js
     (all_left (λ m. eqb i.number m ≡ false) (job_numbers js) ms
@@ -50,7 +50,7 @@ apart i js ms distinct =
 -- only one job has the number of a job
 only_one :
     (P : Job → Type 0) (js : List Job) (ms : List ℕ) (j : Job) → IsDistinct eqb (job_numbers js ++ ms) → Has js j → P j →
-    All (λ k. went_to k.number (Some j.number) ≡ true → P k) js
+    AllByRecursion (λ k. went_to k.number (Some j.number) ≡ true → P k) js
 only_one P [] ms j distinct has p = tt
 only_one P (i ∷ js) ms j distinct has p =
     let differ = apart i js ms distinct in
@@ -75,7 +75,7 @@ only_one P (i ∷ js) ms j distinct has p =
 -- and no other number is that of a job
 no_other :
     (js : List Job) (ms : List ℕ) (j : Job) → IsDistinct eqb (job_numbers js ++ ms) → Has js j →
-    All (λ m. went_to m (Some j.number) ≡ false) ms
+    AllByRecursion (λ m. went_to m (Some j.number) ≡ false) ms
 no_other [] ms j distinct has = absurd (omega (arith, has.1))
 no_other (i ∷ js) ms j distinct has =
     ⊎_elim
@@ -92,8 +92,8 @@ no_other (i ∷ js) ms j distinct has =
 -- who can get a slot at t by this rule
 abbrev Rightful : ℕ → List Job → List ℕ → Option ℕ → Type 0
 Rightful t js ms owner =
-    All (λ k. went_to k.number owner ≡ true → Ready t k × (t < k.deadline)) js
-    × All (λ m. went_to m owner ≡ false) ms
+    AllByRecursion (λ k. went_to k.number owner ≡ true → Ready t k × (t < k.deadline)) js
+    × AllByRecursion (λ m. went_to m owner ≡ false) ms
 
 earliest_is_rightful :
     (t : ℕ) (js : List Job) (ms : List ℕ) (owner : Option ℕ) → IsDistinct eqb (job_numbers js ++ ms) →
@@ -141,11 +141,11 @@ numbers_stay owner (j ∷ js) = ap (λ ns. j.number ∷ ns) (numbers_stay owner 
 
 -- each job gets its demand, and no other number gets a slot
 abbrev Served : Schedule → ℕ → ℕ → List Job → List ℕ → Type 0
-Served s t h js ms = All (GetsItsDemand s t h) js × All (λ m. given s m t h ≡ 0) ms
+Served s t h js ms = AllByRecursion (GetsItsDemand s t h) js × AllByRecursion (λ m. given s m t h ≡ 0) ms
 
 -- nothing is left to serve at the horizon
 served_at_end :
-    (s : Schedule) (t h : ℕ) (js : List Job) (ms : List ℕ) → h ≤ t → All (λ j. j.deadline ≤ h) js →
+    (s : Schedule) (t h : ℕ) (js : List Job) (ms : List ℕ) → h ≤ t → AllByRecursion (λ j. j.deadline ≤ h) js →
     NoWindowOverfull t js →
     Served s t h js ms
 served_at_end s t h js ms end due fits = (
@@ -206,7 +206,7 @@ served_from s t h js ms lt rightful served = (
 -- so earliest deadline first serves all, by recursion on the slots to come
 earliest_serves :
     (slots-to-come : ℕ) (s : Schedule) (t h : ℕ) (js : List Job) (ms : List ℕ) → h ≤ t + slots-to-come →
-    IsDistinct eqb (job_numbers js ++ ms) → All (λ j. j.deadline ≤ h) js → NoWindowOverfull t js →
+    IsDistinct eqb (job_numbers js ++ ms) → AllByRecursion (λ j. j.deadline ≤ h) js → NoWindowOverfull t js →
     ((u : ℕ) → t ≤ u → u < h → EarliestOwner u (jobs_at s t u js) (s u)) →
     Served s t h js ms
 earliest_serves zero s t h js ms end distinct due fits earliest = served_at_end s t h js ms (omega arith) due fits

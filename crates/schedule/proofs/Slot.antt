@@ -1,6 +1,6 @@
 -- One slot: to whom it can go so that no window is overfull afterwards.
 use Rattle.std.proofs.Common.{◌≡◌, ℕ, ◌+◌, ◌<◌, ◌≤◌, max, cond, leb, ◌⊎◌, List, [], ◌∷◌, Some, None, Option, sym, refl, ◌∙◌, inl, inr, ⊎_elim, arith}
-use Rattle.std.specs.List.{ContainsAt as Has, AllByRecursion as All}
+use Rattle.std.specs.List.{ContainsAt as Has, AllByRecursion}
 use Rattle.std.proofs.ByRecursion.{All-weaker}
 use Rattle.std.proofs.lemmas.Bool.{cases_lt, eq-eqb, le-leb, lt-leb}
 use Rattle.std.proofs.lemmas.Bool.Decides.{nat_tests}
@@ -51,7 +51,7 @@ due_by_served js j b has left due =
 
 -- where no ready job is due by b, all that is due by then is released later
 none_ready_by :
-    (t : ℕ) (js : List Job) (b : ℕ) → All (λ j. Ready t j → b < j.deadline) js → due_by js b ≤ demand t js (t + 1) b
+    (t : ℕ) (js : List Job) (b : ℕ) → AllByRecursion (λ j. Ready t j → b < j.deadline) js → due_by js b ≤ demand t js (t + 1) b
 none_ready_by t js b none =
     sums_le (due_job b) (need t (t + 1) b) js
     (All-weaker (λ j. Ready t j → b < j.deadline) (λ j. due_job b j ≤ need t (t + 1) b j) released_later js none)
@@ -154,7 +154,7 @@ slot_while_slack c formed before slack fits owner =
 -- a ready job due by e, or none is
 ready_by :
     (t : ℕ) (js : List Job) (e : ℕ) →
-    ((j : Job) × Has js j × Ready t j × (j.deadline ≤ e)) ⊎ All (λ j. Ready t j → e < j.deadline) js
+    ((j : Job) × Has js j × Ready t j × (j.deadline ≤ e)) ⊎ AllByRecursion (λ j. Ready t j → e < j.deadline) js
 ready_by t [] e = inr tt
 ready_by t (j ∷ js) e =
     ⊎_elim

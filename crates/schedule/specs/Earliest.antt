@@ -1,6 +1,6 @@
 -- Earliest deadline first: the rule by which the guarantees are kept whenever any schedule can keep them.
 use Rattle.std.specs.Prelude.{◌≡◌, ℕ, ◌-◌, ◌<◌, ◌≤◌, List, map, Some, None, Option}
-use Rattle.std.specs.List.{AllByRecursion as All}
+use Rattle.std.specs.List.{AllByRecursion}
 use Rattle.schedule.specs.declared.job.Job.{Job}
 use Rattle.schedule.specs.Schedules.{Commitments, WellFormed, Schedule, Keeps, given}
 use Rattle.schedule.specs.Slot.{Ready, DueFirst, with_left}
@@ -8,7 +8,7 @@ use Rattle.schedule.specs.Windows.{NoWindowOverfull}
 
 -- By this rule the slot goes to a ready job that is due first, and to nobody only if no job is ready.
 abbrev pub EarliestOwner : ℕ → List Job → Option ℕ → Type 0
-EarliestOwner clock js None = All (λ j. Ready clock j → ⊥) js
+EarliestOwner clock js None = AllByRecursion (λ j. Ready clock j → ⊥) js
 EarliestOwner clock js (Some n) = (j : Job) × DueFirst clock js j × (j.number ≡ n)
 
 -- The jobs as they stand at slot u, once the slots from the clock up to u have gone as a schedule says.

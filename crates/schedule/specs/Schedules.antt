@@ -1,6 +1,6 @@
 -- Schedules: who gets which slot, and when a schedule keeps the guarantees or serves an order.
 use Rattle.std.specs.Prelude.{◌≡◌, ℕ, zero, suc, ◌+◌, ◌<◌, ◌≤◌, Bool, false, cond, ◌&&◌, ◌||◌, List, [], ◌∷◌, ◌++◌, map, Some, None, Option, ◌==◌, nat_eq, nat_le}
-use Rattle.std.specs.List.{IsDistinct, AllByRecursion as All}
+use Rattle.std.specs.List.{IsDistinct, AllByRecursion}
 use Rattle.schedule.specs.declared.job.Job.{Job}
 use Rattle.schedule.specs.declared.soft.SoftOrder.{SoftOrder}
 
@@ -21,7 +21,7 @@ order_numbers os = map (λ o. o.number) os
 -- No number stands for two jobs or orders, and no deadline lies behind the horizon.
 abbrev pub WellFormed : Commitments → Type 0
 WellFormed c =
-    IsDistinct nat_eq (job_numbers c.jobs ++ order_numbers c.waiting) × All (λ j. j.deadline ≤ c.horizon) c.jobs
+    IsDistinct nat_eq (job_numbers c.jobs ++ order_numbers c.waiting) × AllByRecursion (λ j. j.deadline ≤ c.horizon) c.jobs
 
 -- A schedule gives each slot to a number, or to nobody. Its slots are those from the clock up to the horizon.
 abbrev pub Schedule : Type 0
@@ -59,8 +59,8 @@ GetsItsDemand s clock horizon j =
 -- A schedule keeps the guarantees if each job that is not done gets its demand, and each waiting order at most what is left of it.
 abbrev pub Keeps : Schedule → Commitments → Type 0
 Keeps s c =
-    All (λ j. 1 ≤ j.left → GetsItsDemand s c.clock c.horizon j) c.jobs
-    × All (λ o. given s o.number c.clock c.horizon ≤ o.left) c.waiting
+    AllByRecursion (λ j. 1 ≤ j.left → GetsItsDemand s c.clock c.horizon j) c.jobs
+    × AllByRecursion (λ o. given s o.number c.clock c.horizon ≤ o.left) c.waiting
 
 -- It serves an order if it also gives that its demand.
 abbrev pub Serves : Schedule → Commitments → Job → Type 0

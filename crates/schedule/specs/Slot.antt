@@ -1,6 +1,6 @@
 -- One slot: to whom the slot at the clock can go so that no window is overfull afterwards.
 use Rattle.std.specs.Prelude.{◌≡◌, ℕ, ◌+◌, ◌-◌, ◌<◌, ◌≤◌, cond, List, map, Some, None, sum_by, Option, nat_le}
-use Rattle.std.specs.List.{ContainsAt as Has, AllByRecursion as All}
+use Rattle.std.specs.List.{ContainsAt as Has, AllByRecursion}
 use Rattle.schedule.specs.declared.job.Job.{Job}
 use Rattle.schedule.specs.Schedules.{Commitments, WellFormed, Schedule, one_if, went_to, Keeps, soft_slots}
 use Rattle.schedule.specs.Windows.{NoWindowOverfull}
@@ -26,7 +26,7 @@ Ready clock j = (j.release ≤ clock) × (1 ≤ j.left)
 
 -- A ready job than which no ready job is due earlier.
 abbrev pub DueFirst : ℕ → List Job → Job → Type 0
-DueFirst clock js j = Has js j × Ready clock j × All (λ k. Ready clock k → j.deadline ≤ k.deadline) js
+DueFirst clock js j = Has js j × Ready clock j × AllByRecursion (λ k. Ready clock k → j.deadline ≤ k.deadline) js
 
 -- The left demand of all jobs due by b.
 abbrev pub due_by : List Job → ℕ → ℕ
@@ -52,7 +52,7 @@ SlotWhileSlack c =
 -- It can go to nobody while no job is ready.
 abbrev pub SlotWhileNoneReady : ℕ → List Job → Type 0
 SlotWhileNoneReady clock js =
-    All (λ j. Ready clock j → ⊥) js → NoWindowOverfull clock js → FitsAfter clock js None
+    AllByRecursion (λ j. Ready clock j → ⊥) js → NoWindowOverfull clock js → FitsAfter clock js None
 
 -- Where there is no slack at e, a ready job is due by then.
 abbrev pub TightMeansReady : ℕ → List Job → Type 0
