@@ -1,9 +1,10 @@
 // The capacity book: one trait, whatever a book keeps to answer it.
-ghost use Rattle.std.specs.Prelude.{◌≡◌, length};
+ghost use Rattle.std.specs.Prelude.{◌≡◌, length, IfOk};
 ghost use Rattle.terms.specs.Answers.{said};
 ghost use Rattle.capacity.specs.Meaning.{Meaning};
-ghost use Rattle.capacity.specs.Calls.{clear_says, clear_leaves, cut_says, cut_leaves, owe_says, owe_leaves, forgive_says, forgive_leaves, run_says, run_leaves, spare_says, headroom_says};
+ghost use Rattle.capacity.specs.Calls.{cleared, clear_says, clear_leaves, cut_says, cut_leaves, owe_says, owe_leaves, forgive_says, forgive_leaves, run_says, run_leaves, spare_says, headroom_says};
 
+use std::alloc::{AllocError, Global};
 use terms::Refusal;
 
 // A book of slots. Its meaning is a clock, a horizon and boundaries with the demand due at each; every call is told by what it
@@ -56,4 +57,11 @@ pub trait Book {
     fn headroom(&mut self, deadline: u32) -> Result<u32, Refusal>
         ensures answer { said result ≡ headroom_says (meaning self.old) deadline }
         ensures same { meaning self.new ≡ meaning self.old };
+}
+
+// A book that can be made. It takes room for every boundary that it may come to hold, and no call of a book takes memory.
+pub trait NewBook: Book {
+    // A book cleared to the shortest horizon.
+    fn new(heap: Global) -> Result<Self, AllocError>
+        ensures { IfOk result (λ b. Self.meaning b ≡ cleared 1) };
 }

@@ -3,8 +3,10 @@
 
 mod book;
 mod boundary;
+mod timeline;
 mod verdict;
 
-pub use book::Book;
+pub use book::{Book, NewBook};
 pub use boundary::Boundary;
+pub use timeline::Timeline;
 pub use verdict::{fits, spares_slot};

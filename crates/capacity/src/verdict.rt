@@ -17,7 +17,7 @@ pub fn fits<B: Book>(book: &mut B, deadline: u32, demand: u32) -> Result<bool, R
     ensures exact { HeadroomIsLeastSlack (B.Book.meaning book.old) deadline demand }
     ensures ordered { Reached (B.Book.meaning book.old) → Ordered (B.Book.meaning book.old) }
 {
-    headroom_takes(book, deadline, demand)
+    Ok(demand <= book.headroom(deadline)?)
 }
 
 // Whether the slot at the clock can be spared for work that nothing guarantees. Refused 4 at the horizon.
@@ -26,22 +26,6 @@ pub fn spares_slot<B: Book>(book: &mut B) -> Result<bool, Refusal>
     ensures answer { said result ≡ spares_slot_says (B.Book.meaning book.old) }
     ensures same { B.Book.meaning book.new ≡ B.Book.meaning book.old }
     ensures exact { SpareMeansSlack (B.Book.meaning book.old) }
-{
-    first_has_spare(book)
-}
-
-// Whether the headroom at a deadline takes a demand.
-fn headroom_takes<B: Book>(book: &mut B, deadline: u32, demand: u32) -> Result<bool, Refusal>
-    ensures answer { said result ≡ fits_says (B.Book.meaning book.old) deadline demand }
-    ensures same { B.Book.meaning book.new ≡ B.Book.meaning book.old }
-{
-    Ok(demand <= book.headroom(deadline)?)
-}
-
-// Whether the first interval has a slot to spare.
-fn first_has_spare<B: Book>(book: &mut B) -> Result<bool, Refusal>
-    ensures answer { said result ≡ spares_slot_says (B.Book.meaning book.old) }
-    ensures same { B.Book.meaning book.new ≡ B.Book.meaning book.old }
 {
     Ok(book.spare(1)? >= 1)
 }

@@ -7,30 +7,30 @@ use std::fmt;
 
 #[derive(Clone, Copy, PartialEq, Eq, Debug)]
 pub enum Refusal {
-    // 1: the bytes end inside a number, or where one must begin.
-    Truncated,
-    // 2: a number is not in its shortest form, or has a fourth group.
-    Overlong,
-    // 3: a horizon or a count of jobs is out of its range.
-    OutOfRange,
-    // 4: a window, a demand or a place breaks its rule.
-    Unfit,
-    // 5: bytes follow the last job.
-    Surplus,
-    // 6: nothing is held under that number, or not so much is due there.
-    NotHeld,
-    // 7: the clock stands at the horizon.
-    AtHorizon,
-    // 8: the plan's records are full, or the buffer is too short.
-    Full,
-    // 9: there would be one boundary too many.
-    TooManyBoundaries,
-    // 10: every number has been given out.
-    NumbersSpent,
-    // 11: no capacity is left for it.
-    NoCapacity,
-    // 12: the order line is malformed.
-    BadLine,
+    // The bytes end inside a number, or where one must begin.
+    Truncated = 1,
+    // A number is not in its shortest form, or has a fourth group.
+    Overlong = 2,
+    // A horizon or a count of jobs is out of its range.
+    OutOfRange = 3,
+    // A window, a demand or a place breaks its rule.
+    Unfit = 4,
+    // Bytes follow the last job.
+    Surplus = 5,
+    // Nothing is held under that number, or not so much is due there.
+    NotHeld = 6,
+    // The clock stands at the horizon.
+    AtHorizon = 7,
+    // The plan's records are full, or the buffer is too short.
+    Full = 8,
+    // There would be one boundary too many.
+    TooManyBoundaries = 9,
+    // Every number has been given out.
+    NumbersSpent = 10,
+    // No capacity is left for it.
+    NoCapacity = 11,
+    // The order line is malformed.
+    BadLine = 12,
 }
 
 impl Refusal {
@@ -38,20 +38,7 @@ impl Refusal {
     pub fn number(self) -> u8
         ensures { result ≡ number_of self }
     {
-        match self {
-            Refusal::Truncated => 1,
-            Refusal::Overlong => 2,
-            Refusal::OutOfRange => 3,
-            Refusal::Unfit => 4,
-            Refusal::Surplus => 5,
-            Refusal::NotHeld => 6,
-            Refusal::AtHorizon => 7,
-            Refusal::Full => 8,
-            Refusal::TooManyBoundaries => 9,
-            Refusal::NumbersSpent => 10,
-            Refusal::NoCapacity => 11,
-            Refusal::BadLine => 12,
-        }
+        self as u8
     }
 }
 
