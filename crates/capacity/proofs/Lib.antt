@@ -5,6 +5,7 @@ pub mod Slots
 pub mod Intervals
 pub mod Order
 pub mod Places
+pub mod Searching
 pub mod Suffixes
 pub mod Passing
 pub mod Noted
