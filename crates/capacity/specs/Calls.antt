@@ -1,6 +1,6 @@
 -- The lines of a book: for each call what it says, and what the book means afterwards. After a refusal that is what it
 -- meant before.
-use Rattle.std.specs.Prelude.{ℕ, ◌+◌, ◌-◌, Bool, false, cond, not, ◌&&◌, ◌||◌, leb, List, [], ◌∷◌, length, ℤ, pos, Some, None, Option, ◌==◌, int_le, nat_le, nat_lt}
+use Rattle.std.specs.Prelude.{ℕ, ◌+◌, ◌-◌, Bool, false, if◌then◌else◌, not, ◌&&◌, ◌||◌, List, [], ◌∷◌, length, ℤ, pos, Some, None, Option, ◌==◌, int_le, nat_le, nat_lt}
 use Rattle.terms.specs.Answers.{Said, value, refuse, after, mapped}
 use Rattle.terms.specs.Limits.{longest_horizon, most_boundaries}
 use Rattle.capacity.specs.declared.boundary.Boundary.{Boundary}
@@ -15,22 +15,22 @@ is_boundary (b ∷ bs) d = b.end == d || is_boundary bs d
 -- What is due at d; nothing where d is no boundary.
 abbrev pub due_at : List Boundary → ℕ → ℕ
 due_at [] d = 0
-due_at (b ∷ bs) d = cond (b.end == d) b.due (due_at bs d)
+due_at (b ∷ bs) d = if b.end == d then b.due else due_at bs d
 
 -- c is due at d from now on; the other boundaries stay as they are.
 abbrev pub with_due : List Boundary → ℕ → ℕ → List Boundary
 with_due [] d c = []
-with_due (b ∷ bs) d c = cond (b.end == d) (record { end = d; due = c } ∷ bs) (b ∷ with_due bs d c)
+with_due (b ∷ bs) d c = if b.end == d then record { end = d; due = c } ∷ bs else b ∷ with_due bs d c
 
 -- d stands in its place among the boundaries, with nothing due.
 abbrev pub with_boundary : List Boundary → ℕ → List Boundary
 with_boundary [] d = record { end = d; due = 0 } ∷ []
-with_boundary (b ∷ bs) d = cond (nat_lt d b.end) (record { end = d; due = 0 } ∷ (b ∷ bs)) (b ∷ with_boundary bs d)
+with_boundary (b ∷ bs) d = if nat_lt d b.end then record { end = d; due = 0 } ∷ (b ∷ bs) else b ∷ with_boundary bs d
 
 -- The boundaries later than t, where only the first can be t.
 abbrev pub later_than : ℕ → List Boundary → List Boundary
 later_than t [] = []
-later_than t (b ∷ bs) = cond (nat_lt t b.end) (b ∷ bs) bs
+later_than t (b ∷ bs) = if nat_lt t b.end then b ∷ bs else bs
 
 -- A slot or deadline that is still to come: after the clock and not after the horizon.
 abbrev pub to_come : Meaning → ℕ → Bool
@@ -59,7 +59,7 @@ cut_says m d =
 abbrev pub cut_leaves : Meaning → ℕ → Meaning
 cut_leaves m d =
     after (cut_says m d)
-    (cond (is_boundary m.boundaries d) m (with_boundaries m (with_boundary m.boundaries d)))
+    (if is_boundary m.boundaries d then m else with_boundaries m (with_boundary m.boundaries d))
     m
 
 -- owe(d, c): c more is due at d. Refused 4 unless d is a boundary and c at least 1, 11 if c is more than headroom(d).
@@ -117,7 +117,7 @@ headroom_says m d = refuse 4 (not (to_come m d)) (value (headroom m d))
 
 -- Whether c more can be due at d: the headroom takes it.
 abbrev pub fits_says : Meaning → ℕ → ℕ → Said Bool
-fits_says m d c = mapped (leb c) (headroom_says m d)
+fits_says m d c = mapped (nat_le c) (headroom_says m d)
 
 -- Whether the slot at the clock can be spared: the first interval has one.
 abbrev pub spares_slot_says : Meaning → Said Bool

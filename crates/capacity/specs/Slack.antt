@@ -1,5 +1,5 @@
 -- Slack, and what spare capacity and headroom say about it: the two facts that make slot shifting right.
-use Rattle.std.specs.Prelude.{◌≡◌, ℕ, ◌+◌, ◌<◌, ◌≤◌, Bool, true, cond, ◌&&◌, List, [], ◌∷◌, pos, ◌≤ℤ◌, ◌==◌, nat_le, nat_lt}
+use Rattle.std.specs.Prelude.{◌≡◌, ℕ, ◌+◌, ◌<◌, ◌≤◌, Bool, true, if◌then◌else◌, ◌&&◌, List, [], ◌∷◌, pos, ◌≤ℤ◌, ◌==◌, nat_le, nat_lt}
 use Rattle.capacity.specs.declared.boundary.Boundary.{Boundary}
 use Rattle.capacity.specs.Meaning.{Meaning}
 use Rattle.capacity.specs.Spare.{spare, headroom}
@@ -7,7 +7,7 @@ use Rattle.capacity.specs.Spare.{spare, headroom}
 -- The demand due by u.
 abbrev pub due_by : List Boundary → ℕ → ℕ
 due_by [] u = 0
-due_by (b ∷ bs) u = cond (nat_le b.end u) b.due 0 + due_by bs u
+due_by (b ∷ bs) u = (if nat_le b.end u then b.due else 0) + due_by bs u
 
 -- The slack at b is at least c: what is due by b, and c slots more, fit between the clock and b.
 abbrev pub Slack : Meaning → ℕ → ℕ → Type 0

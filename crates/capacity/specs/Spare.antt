@@ -1,6 +1,6 @@
 -- Spare capacity and headroom, by their formulas. Intervals lie one behind the other: the first begins at s, each other
 -- one where the interval before it ends.
-use Rattle.std.specs.Prelude.{ℕ, ◌+◌, ◌-◌, cond, List, [], ◌∷◌, ℤ, pos, negsuc, ◌+ℤ◌, ◌-ℤ◌, nat_le, slice_index_or}
+use Rattle.std.specs.Prelude.{ℕ, ◌+◌, ◌-◌, if◌then◌else◌, List, [], ◌∷◌, ℤ, pos, negsuc, ◌+ℤ◌, ◌-ℤ◌, nat_le, slice_index_or}
 use Rattle.std.specs.Int.{int_min}
 use Rattle.capacity.specs.declared.boundary.Boundary.{Boundary}
 use Rattle.capacity.specs.Meaning.{Meaning}
@@ -28,9 +28,9 @@ positive_part (negsuc n) = 0
 abbrev pub headroom_from : ℕ → List Boundary → ℕ → ℕ
 headroom_from s [] d = 0
 headroom_from s (b ∷ bs) d =
-    cond (nat_le d b.end)
-    (positive_part (int_min (pos d -ℤ pos s) (first_spare s (b ∷ bs))))
-    (positive_part (first_spare s (b ∷ bs)) + headroom_from b.end bs d)
+    if nat_le d b.end
+    then positive_part (int_min (pos d -ℤ pos s) (first_spare s (b ∷ bs)))
+    else positive_part (first_spare s (b ∷ bs)) + headroom_from b.end bs d
 
 -- headroom(d).
 abbrev pub headroom : Meaning → ℕ → ℕ

@@ -1,5 +1,5 @@
 -- Schedules: who gets which slot, and when a schedule keeps the guarantees or serves an order.
-use Rattle.std.specs.Prelude.{◌≡◌, ℕ, zero, suc, ◌+◌, ◌<◌, ◌≤◌, Bool, false, cond, ◌&&◌, ◌||◌, List, [], ◌∷◌, ◌++◌, map, Some, None, Option, ◌==◌, nat_eq, nat_le}
+use Rattle.std.specs.Prelude.{◌≡◌, ℕ, zero, suc, ◌+◌, ◌<◌, ◌≤◌, Bool, false, if◌then◌else◌, ◌&&◌, ◌||◌, List, [], ◌∷◌, ◌++◌, map, Some, None, Option, ◌==◌, nat_eq, nat_le}
 use Rattle.std.specs.List.{IsDistinct, AllByRecursion}
 use Rattle.schedule.specs.declared.job.Job.{Job}
 use Rattle.schedule.specs.declared.soft.SoftOrder.{SoftOrder}
@@ -39,7 +39,7 @@ went_to_any (n ∷ ns) owner = went_to n owner || went_to_any ns owner
 
 -- 1 if so, and otherwise 0.
 abbrev pub one_if : Bool → ℕ
-one_if b = cond b 1 0
+one_if b = if b then 1 else 0
 
 -- How many of the slots from a on and before b are such that p.
 abbrev pub slots : (ℕ → Bool) → ℕ → ℕ → ℕ

@@ -1,5 +1,5 @@
 -- One slot: to whom the slot at the clock can go so that no window is overfull afterwards.
-use Rattle.std.specs.Prelude.{◌≡◌, ℕ, ◌+◌, ◌-◌, ◌<◌, ◌≤◌, cond, List, map, Some, None, sum_by, Option, nat_le}
+use Rattle.std.specs.Prelude.{◌≡◌, ℕ, ◌+◌, ◌-◌, ◌<◌, ◌≤◌, if◌then◌else◌, List, map, Some, None, sum_by, Option, nat_le}
 use Rattle.std.specs.List.{ContainsAt as Has, AllByRecursion}
 use Rattle.schedule.specs.declared.job.Job.{Job}
 use Rattle.schedule.specs.Schedules.{Commitments, WellFormed, Schedule, one_if, went_to, Keeps, soft_slots}
@@ -30,7 +30,7 @@ DueFirst clock js j = Has js j × Ready clock j × AllByRecursion (λ k. Ready c
 
 -- The left demand of all jobs due by b.
 abbrev pub due_by : List Job → ℕ → ℕ
-due_by js b = sum_by (λ j. cond (nat_le j.deadline b) j.left 0) js
+due_by js b = sum_by (λ j. if nat_le j.deadline b then j.left else 0) js
 
 -- The slack at b is at least c: what is due by b, and c slots more, fit between the clock and b.
 abbrev pub Slack : ℕ → List Job → ℕ → ℕ → Type 0

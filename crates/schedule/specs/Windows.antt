@@ -1,5 +1,5 @@
 -- Windows, and how much must be done in each: no window is overfull exactly when some schedule keeps the guarantees.
-use Rattle.std.specs.Prelude.{ℕ, ◌+◌, ◌≤◌, max, Bool, cond, ◌&&◌, ◌↔◌, List, ◌∷◌, Decides, sum_by, nat_le}
+use Rattle.std.specs.Prelude.{ℕ, ◌+◌, ◌≤◌, max, Bool, if◌then◌else◌, ◌&&◌, ◌↔◌, List, ◌∷◌, Decides, sum_by, nat_le}
 use Rattle.schedule.specs.declared.job.Job.{Job}
 use Rattle.schedule.specs.Schedules.{Commitments, WellFormed, CanBeKept, CanBeServed}
 
@@ -13,7 +13,7 @@ lies_in clock a b j = nat_le a (start clock j) && nat_le j.deadline b
 
 -- What a job needs of that window.
 abbrev pub need : ℕ → ℕ → ℕ → Job → ℕ
-need clock a b j = cond (lies_in clock a b j) j.left 0
+need clock a b j = if lies_in clock a b j then j.left else 0
 
 -- The left demand of all jobs that must lie in that window.
 abbrev pub demand : ℕ → List Job → ℕ → ℕ → ℕ

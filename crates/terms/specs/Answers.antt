@@ -1,5 +1,5 @@
 -- What an answer says: a value, nothing, or the number of a refusal. Contracts speak of this, and not of variants.
-use Rattle.std.specs.Prelude.{ℕ, Bool, cond, Some, None, Ok, Err, Option, Result}
+use Rattle.std.specs.Prelude.{ℕ, Bool, if◌then◌else◌, Some, None, Ok, Err, Option, Result}
 use Rattle.terms.specs.declared.refusal.Refusal.{Refusal}
 use Rattle.terms.specs.declared.refusal.Refusal.TheVariants.{Truncated, Overlong, OutOfRange, Unfit, Surplus, NotHeld, AtHorizon, Full, TooManyBoundaries, NumbersSpent, NoCapacity, BadLine}
 
@@ -36,7 +36,7 @@ offered None = nothing
 
 -- The call is refused with the number n if b, and otherwise goes on. Rules are written in rising order of their numbers.
 abbrev pub refuse : {X : Type 0} → ℕ → Bool → Said X → Said X
-refuse n b rest = cond b (refused n) rest
+refuse n b rest = if b then refused n else rest
 
 -- What holds after a call: the new state if it was taken, and the old one after a refusal.
 abbrev pub after : {X S : Type 0} → Said X → S → S → S
