@@ -9,12 +9,5 @@ pub fn worked_figures() -> usize
     ensures hold { AllHold figures }
     ensures count { result ≡ length figures }
 {
-    listed()
-}
-
-// The length of the list.
-fn listed() -> usize
-    ensures { result ≡ length figures }
-{
     7
 }
