@@ -14,37 +14,20 @@ pub(crate) enum Call {
     Headroom(u32),
 }
 
-// What was answered: that the call was taken, a number, or the number of the refusal.
-#[derive(Clone, Copy, PartialEq, Eq, Debug)]
-pub(crate) enum Said {
-    Taken,
-    Value(i64),
-    Refused(u8),
-}
+// What a call answers: a number, nothing more than that it was taken, or why it was refused.
+pub(crate) type Answer = Result<Option<i64>, Refusal>;
 
-pub(crate) fn perform<B: Book>(book: &mut B, call: Call) -> Said {
+pub(crate) fn perform<B: Book>(book: &mut B, call: Call) -> Answer {
     match call {
-        Call::Clear(horizon) => taken(book.clear(horizon)),
-        Call::Cut(deadline) => taken(book.cut(deadline)),
-        Call::Owe(deadline, demand) => taken(book.owe(deadline, demand)),
-        Call::Forgive(deadline, demand) => taken(book.forgive(deadline, demand)),
-        Call::Run(owner) => taken(book.run(owner)),
-        Call::Spare(interval) => match book.spare(interval) {
-            Ok(spare) => Said::Value(i64::from(spare)),
-            Err(refusal) => Said::Refused(refusal.number()),
-        },
-        Call::Headroom(slot) => match book.headroom(slot) {
-            Ok(headroom) => Said::Value(i64::from(headroom)),
-            Err(refusal) => Said::Refused(refusal.number()),
-        },
+        Call::Clear(horizon) => book.clear(horizon)?,
+        Call::Cut(deadline) => book.cut(deadline)?,
+        Call::Owe(deadline, demand) => book.owe(deadline, demand)?,
+        Call::Forgive(deadline, demand) => book.forgive(deadline, demand)?,
+        Call::Run(owner) => book.run(owner)?,
+        Call::Spare(interval) => return Ok(Some(book.spare(interval)?.into())),
+        Call::Headroom(slot) => return Ok(Some(book.headroom(slot)?.into())),
     }
-}
-
-fn taken(answer: Result<(), Refusal>) -> Said {
-    match answer {
-        Ok(()) => Said::Taken,
-        Err(refusal) => Said::Refused(refusal.number()),
-    }
+    Ok(None)
 }
 
 // What can be seen of a book: its clock, its count, every spare and the headroom at the slots up to 16.
@@ -52,22 +35,18 @@ fn taken(answer: Result<(), Refusal>) -> Said {
 pub(crate) struct Seen {
     clock: u32,
     count: usize,
-    answers: Vec<i64>,
+    answers: Vec<Answer>,
 }
 
 pub(crate) fn look_at<B: Book>(heap: Global, book: &mut B) -> Result<Seen, AllocError> {
     let clock = book.clock();
     let count = book.count();
     let mut answers = Vec::new(heap);
-    for interval in 0..count {
-        if let Said::Value(spare) = perform(book, Call::Spare(interval + 1)) {
-            answers.push(spare)?;
-        }
+    for interval in 1..=count {
+        answers.push(perform(book, Call::Spare(interval)))?;
     }
     for slot in 0..16 {
-        if let Said::Value(headroom) = perform(book, Call::Headroom(slot)) {
-            answers.push(headroom)?;
-        }
+        answers.push(perform(book, Call::Headroom(slot)))?;
     }
     Ok(Seen {
         clock,

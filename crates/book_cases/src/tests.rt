@@ -1,24 +1,26 @@
 use crate::calls::*;
-use capacity::Book;
+use capacity::{Book, NewBook};
 use deferred_book::DeferredBook;
 use plain_book::PlainBook;
 use slot_book::SlotBook;
 use std::alloc::Global;
 use std::process::Abort;
 use std::test::Fail;
+use terms::Refusal;
+use terms::Refusal::{AtHorizon, NoCapacity, NotHeld, OutOfRange, TooManyBoundaries, Unfit};
 
 // Calls with what each must answer. A refused call, and a question, must leave all that can be seen of the book.
 fn play<B: Book>(
     rt: &impl Abort,
     heap: Global,
     book: &mut B,
-    cases: &[(Call, Said)],
+    cases: &[(Call, Answer)],
 ) -> Result<(), Fail> {
-    for (call, expected) in cases {
+    for &(call, expected) in cases {
         let before = look_at(heap, book)?;
-        let said = perform(book, *call);
-        assert_eq!(rt; said, *expected);
-        if said != Said::Taken {
+        let answer = perform(book, call);
+        assert_eq!(rt; answer, expected);
+        if answer != Ok(None) {
             assert_eq!(rt; look_at(heap, book)?, before);
         }
     }
@@ -26,147 +28,157 @@ fn play<B: Book>(
 }
 
 // Calls with what each must answer, and no other call in between: a book may put work off until it is asked.
-fn play_blind<B: Book>(rt: &impl Abort, book: &mut B, cases: &[(Call, Said)]) {
-    for (call, expected) in cases {
-        assert_eq!(rt; perform(book, *call), *expected);
+fn play_blind<B: Book>(rt: &impl Abort, book: &mut B, cases: &[(Call, Answer)]) {
+    for &(call, expected) in cases {
+        assert_eq!(rt; perform(book, call), expected);
     }
 }
 
+// The refusals that the tables name, each with its number.
+const NUMBERS: [(Refusal, u8); 6] = [
+    (OutOfRange, 3),
+    (Unfit, 4),
+    (NotHeld, 6),
+    (AtHorizon, 7),
+    (TooManyBoundaries, 9),
+    (NoCapacity, 11),
+];
+
 // The worked example: horizon 12, with 2, 1, 1 and 5 slots due at 6, 8, 10 and 12.
-const WORKED: [(Call, Said); 9] = [
-    (Call::Clear(12), Said::Taken),
-    (Call::Cut(6), Said::Taken),
-    (Call::Owe(6, 2), Said::Taken),
-    (Call::Cut(8), Said::Taken),
-    (Call::Owe(8, 1), Said::Taken),
-    (Call::Cut(10), Said::Taken),
-    (Call::Owe(10, 1), Said::Taken),
-    (Call::Cut(12), Said::Taken),
-    (Call::Owe(12, 5), Said::Taken),
+const WORKED: [(Call, Answer); 9] = [
+    (Call::Clear(12), Ok(None)),
+    (Call::Cut(6), Ok(None)),
+    (Call::Owe(6, 2), Ok(None)),
+    (Call::Cut(8), Ok(None)),
+    (Call::Owe(8, 1), Ok(None)),
+    (Call::Cut(10), Ok(None)),
+    (Call::Owe(10, 1), Ok(None)),
+    (Call::Cut(12), Ok(None)),
+    (Call::Owe(12, 5), Ok(None)),
 ];
 
-const RANGES: [(Call, Said); 8] = [
-    (Call::Clear(0), Said::Refused(3)),
-    (Call::Clear(1_000_001), Said::Refused(3)),
-    (Call::Clear(u32::MAX), Said::Refused(3)),
-    (Call::Clear(1_000_000), Said::Taken),
-    (Call::Owe(1_000_000, 1_000_001), Said::Refused(11)),
-    (Call::Owe(1_000_000, 1_000_000), Said::Taken),
-    (Call::Spare(1), Said::Value(0)),
-    (Call::Clear(1), Said::Taken),
+const RANGES: [(Call, Answer); 8] = [
+    (Call::Clear(0), Err(OutOfRange)),
+    (Call::Clear(1_000_001), Err(OutOfRange)),
+    (Call::Clear(u32::MAX), Err(OutOfRange)),
+    (Call::Clear(1_000_000), Ok(None)),
+    (Call::Owe(1_000_000, 1_000_001), Err(NoCapacity)),
+    (Call::Owe(1_000_000, 1_000_000), Ok(None)),
+    (Call::Spare(1), Ok(Some(0))),
+    (Call::Clear(1), Ok(None)),
 ];
 
-const REFUSED: [(Call, Said); 26] = [
-    (Call::Cut(0), Said::Refused(4)),
-    (Call::Cut(13), Said::Refused(4)),
-    (Call::Cut(u32::MAX), Said::Refused(4)),
-    (Call::Cut(12), Said::Taken),
-    (Call::Owe(5, 1), Said::Refused(4)),
-    (Call::Owe(13, 1), Said::Refused(4)),
-    (Call::Owe(12, 0), Said::Refused(4)),
+const REFUSED: [(Call, Answer); 26] = [
+    (Call::Cut(0), Err(Unfit)),
+    (Call::Cut(13), Err(Unfit)),
+    (Call::Cut(u32::MAX), Err(Unfit)),
+    (Call::Cut(12), Ok(None)),
+    (Call::Owe(5, 1), Err(Unfit)),
+    (Call::Owe(13, 1), Err(Unfit)),
+    (Call::Owe(12, 0), Err(Unfit)),
     // Two rules apply, and the smaller number is answered.
-    (Call::Owe(5, 9), Said::Refused(4)),
-    (Call::Owe(12, 4), Said::Refused(11)),
-    (Call::Owe(12, u32::MAX), Said::Refused(11)),
-    (Call::Owe(12, 3), Said::Taken),
-    (Call::Owe(12, 1), Said::Refused(11)),
-    (Call::Forgive(12, 3), Said::Taken),
-    (Call::Forgive(5, 0), Said::Refused(6)),
-    (Call::Forgive(12, 6), Said::Refused(6)),
-    (Call::Forgive(12, u32::MAX), Said::Refused(6)),
-    (Call::Forgive(12, 0), Said::Taken),
-    (Call::Run(Some(5)), Said::Refused(6)),
-    (Call::Run(Some(13)), Said::Refused(6)),
-    (Call::Spare(0), Said::Refused(4)),
-    (Call::Spare(5), Said::Refused(4)),
-    (Call::Spare(usize::MAX), Said::Refused(4)),
-    (Call::Headroom(0), Said::Refused(4)),
-    (Call::Headroom(13), Said::Refused(4)),
-    (Call::Headroom(1), Said::Value(1)),
-    (Call::Headroom(12), Said::Value(3)),
+    (Call::Owe(5, 9), Err(Unfit)),
+    (Call::Owe(12, 4), Err(NoCapacity)),
+    (Call::Owe(12, u32::MAX), Err(NoCapacity)),
+    (Call::Owe(12, 3), Ok(None)),
+    (Call::Owe(12, 1), Err(NoCapacity)),
+    (Call::Forgive(12, 3), Ok(None)),
+    (Call::Forgive(5, 0), Err(NotHeld)),
+    (Call::Forgive(12, 6), Err(NotHeld)),
+    (Call::Forgive(12, u32::MAX), Err(NotHeld)),
+    (Call::Forgive(12, 0), Ok(None)),
+    (Call::Run(Some(5)), Err(NotHeld)),
+    (Call::Run(Some(13)), Err(NotHeld)),
+    (Call::Spare(0), Err(Unfit)),
+    (Call::Spare(5), Err(Unfit)),
+    (Call::Spare(usize::MAX), Err(Unfit)),
+    (Call::Headroom(0), Err(Unfit)),
+    (Call::Headroom(13), Err(Unfit)),
+    (Call::Headroom(1), Ok(Some(1))),
+    (Call::Headroom(12), Ok(Some(3))),
 ];
 
 // Three slots for 12 and one for nobody, and then the edges at the new clock.
-const SLOTS: [(Call, Said); 12] = [
-    (Call::Run(Some(12)), Said::Taken),
-    (Call::Run(Some(12)), Said::Taken),
-    (Call::Run(Some(12)), Said::Taken),
-    (Call::Run(None), Said::Taken),
-    (Call::Spare(1), Said::Value(0)),
-    (Call::Spare(2), Said::Value(1)),
-    (Call::Spare(3), Said::Value(1)),
-    (Call::Spare(4), Said::Value(0)),
-    (Call::Headroom(4), Said::Refused(4)),
-    (Call::Headroom(5), Said::Value(0)),
-    (Call::Cut(4), Said::Refused(4)),
-    (Call::Cut(5), Said::Taken),
+const SLOTS: [(Call, Answer); 12] = [
+    (Call::Run(Some(12)), Ok(None)),
+    (Call::Run(Some(12)), Ok(None)),
+    (Call::Run(Some(12)), Ok(None)),
+    (Call::Run(None), Ok(None)),
+    (Call::Spare(1), Ok(Some(0))),
+    (Call::Spare(2), Ok(Some(1))),
+    (Call::Spare(3), Ok(Some(1))),
+    (Call::Spare(4), Ok(Some(0))),
+    (Call::Headroom(4), Err(Unfit)),
+    (Call::Headroom(5), Ok(Some(0))),
+    (Call::Cut(4), Err(Unfit)),
+    (Call::Cut(5), Ok(None)),
 ];
 
 // A boundary goes with what is still due there, nothing is due at the next one, and at the horizon no boundary is left.
-const HORIZON: [(Call, Said); 16] = [
-    (Call::Clear(2), Said::Taken),
-    (Call::Cut(1), Said::Taken),
-    (Call::Owe(1, 1), Said::Taken),
-    (Call::Spare(1), Said::Value(0)),
-    (Call::Run(None), Said::Taken),
-    (Call::Spare(1), Said::Value(1)),
-    (Call::Spare(2), Said::Refused(4)),
-    (Call::Run(Some(1)), Said::Refused(6)),
-    (Call::Run(Some(2)), Said::Refused(6)),
-    (Call::Run(None), Said::Taken),
-    (Call::Run(None), Said::Refused(7)),
-    (Call::Run(Some(2)), Said::Refused(6)),
-    (Call::Spare(1), Said::Refused(4)),
-    (Call::Headroom(2), Said::Refused(4)),
-    (Call::Cut(2), Said::Refused(4)),
-    (Call::Forgive(2, 0), Said::Refused(6)),
+const HORIZON: [(Call, Answer); 16] = [
+    (Call::Clear(2), Ok(None)),
+    (Call::Cut(1), Ok(None)),
+    (Call::Owe(1, 1), Ok(None)),
+    (Call::Spare(1), Ok(Some(0))),
+    (Call::Run(None), Ok(None)),
+    (Call::Spare(1), Ok(Some(1))),
+    (Call::Spare(2), Err(Unfit)),
+    (Call::Run(Some(1)), Err(NotHeld)),
+    (Call::Run(Some(2)), Err(NotHeld)),
+    (Call::Run(None), Ok(None)),
+    (Call::Run(None), Err(AtHorizon)),
+    (Call::Run(Some(2)), Err(NotHeld)),
+    (Call::Spare(1), Err(Unfit)),
+    (Call::Headroom(2), Err(Unfit)),
+    (Call::Cut(2), Err(Unfit)),
+    (Call::Forgive(2, 0), Err(NotHeld)),
 ];
 
 // A demand that is lost leaves a negative spare, and no headroom.
-const LOST: [(Call, Said); 7] = [
-    (Call::Clear(3), Said::Taken),
-    (Call::Owe(3, 3), Said::Taken),
-    (Call::Run(None), Said::Taken),
-    (Call::Spare(1), Said::Value(-1)),
-    (Call::Headroom(3), Said::Value(0)),
-    (Call::Owe(3, 1), Said::Refused(11)),
-    (Call::Forgive(3, 2), Said::Taken),
+const LOST: [(Call, Answer); 7] = [
+    (Call::Clear(3), Ok(None)),
+    (Call::Owe(3, 3), Ok(None)),
+    (Call::Run(None), Ok(None)),
+    (Call::Spare(1), Ok(Some(-1))),
+    (Call::Headroom(3), Ok(Some(0))),
+    (Call::Owe(3, 1), Err(NoCapacity)),
+    (Call::Forgive(3, 2), Ok(None)),
 ];
 
 // The book of 128 boundaries: no new one, but those that are there.
-const FULL: [(Call, Said); 4] = [
-    (Call::Cut(500), Said::Refused(9)),
-    (Call::Cut(1001), Said::Refused(4)),
-    (Call::Cut(127), Said::Taken),
-    (Call::Owe(127, 1), Said::Taken),
+const FULL: [(Call, Answer); 4] = [
+    (Call::Cut(500), Err(TooManyBoundaries)),
+    (Call::Cut(1001), Err(Unfit)),
+    (Call::Cut(127), Ok(None)),
+    (Call::Owe(127, 1), Ok(None)),
 ];
 
 // The slots of the worked example in one go, and only then the spares.
-const LATE: [(Call, Said); 8] = [
-    (Call::Run(Some(12)), Said::Taken),
-    (Call::Run(Some(12)), Said::Taken),
-    (Call::Run(Some(12)), Said::Taken),
-    (Call::Run(None), Said::Taken),
-    (Call::Spare(1), Said::Value(0)),
-    (Call::Spare(2), Said::Value(1)),
-    (Call::Spare(3), Said::Value(1)),
-    (Call::Spare(4), Said::Value(0)),
+const LATE: [(Call, Answer); 8] = [
+    (Call::Run(Some(12)), Ok(None)),
+    (Call::Run(Some(12)), Ok(None)),
+    (Call::Run(Some(12)), Ok(None)),
+    (Call::Run(None), Ok(None)),
+    (Call::Spare(1), Ok(Some(0))),
+    (Call::Spare(2), Ok(Some(1))),
+    (Call::Spare(3), Ok(Some(1))),
+    (Call::Spare(4), Ok(Some(0))),
 ];
 
 // The first interval ends before anyone asks. At slot 7, 0, 1 and 2 are left at 8, 10 and 12: the spares are 1, 1 and 0.
-const ENDED: [(Call, Said); 12] = [
-    (Call::Run(Some(12)), Said::Taken),
-    (Call::Run(Some(12)), Said::Taken),
-    (Call::Run(Some(12)), Said::Taken),
-    (Call::Run(None), Said::Taken),
-    (Call::Run(Some(6)), Said::Taken),
-    (Call::Run(Some(6)), Said::Taken),
-    (Call::Run(Some(8)), Said::Taken),
-    (Call::Spare(1), Said::Value(1)),
-    (Call::Spare(2), Said::Value(1)),
-    (Call::Spare(3), Said::Value(0)),
-    (Call::Spare(4), Said::Refused(4)),
-    (Call::Headroom(12), Said::Value(2)),
+const ENDED: [(Call, Answer); 12] = [
+    (Call::Run(Some(12)), Ok(None)),
+    (Call::Run(Some(12)), Ok(None)),
+    (Call::Run(Some(12)), Ok(None)),
+    (Call::Run(None), Ok(None)),
+    (Call::Run(Some(6)), Ok(None)),
+    (Call::Run(Some(6)), Ok(None)),
+    (Call::Run(Some(8)), Ok(None)),
+    (Call::Spare(1), Ok(Some(1))),
+    (Call::Spare(2), Ok(Some(1))),
+    (Call::Spare(3), Ok(Some(0))),
+    (Call::Spare(4), Err(Unfit)),
+    (Call::Headroom(12), Ok(Some(2))),
 ];
 
 // The tables in which slots pass unseen, each after the worked example.
@@ -177,7 +189,9 @@ fn play_unseen<B: Book>(rt: &impl Abort, book: &mut B) {
     play_blind(rt, book, &ENDED);
 }
 
-fn play_all<B: Book>(rt: &impl Abort, heap: Global, book: &mut B) -> Result<(), Fail> {
+// Every table, one after the other, over a new book.
+fn play_all<B: NewBook + Drop>(rt: &impl Abort, heap: Global) -> Result<(), Fail> {
+    let book = &mut B::new(heap)?;
     play(rt, heap, book, &RANGES)?;
     play(rt, heap, book, &WORKED)?;
     play(rt, heap, book, &REFUSED)?;
@@ -185,9 +199,9 @@ fn play_all<B: Book>(rt: &impl Abort, heap: Global, book: &mut B) -> Result<(), 
     play(rt, heap, book, &HORIZON)?;
     play(rt, heap, book, &LOST)?;
     play_unseen(rt, book);
-    assert_eq!(rt; perform(book, Call::Clear(1000)), Said::Taken);
+    assert_eq!(rt; perform(book, Call::Clear(1000)), Ok(None));
     for deadline in 1..128 {
-        assert_eq!(rt; perform(book, Call::Cut(deadline)), Said::Taken);
+        assert_eq!(rt; perform(book, Call::Cut(deadline)), Ok(None));
     }
     assert_eq!(rt; book.count(), 128);
     play(rt, heap, book, &FULL)
@@ -195,21 +209,22 @@ fn play_all<B: Book>(rt: &impl Abort, heap: Global, book: &mut B) -> Result<(), 
 
 #[test]
 fn plain_book_cases(rt: HostRuntime) -> Result<(), Fail> {
-    let heap = rt.alloc();
-    let mut book = PlainBook::new(heap)?;
-    play_all(&rt, heap, &mut book)
+    play_all::<PlainBook>(&rt, rt.alloc())
 }
 
 #[test]
 fn slot_book_cases(rt: HostRuntime) -> Result<(), Fail> {
-    let heap = rt.alloc();
-    let mut book = SlotBook::new(heap)?;
-    play_all(&rt, heap, &mut book)
+    play_all::<SlotBook>(&rt, rt.alloc())
 }
 
 #[test]
 fn deferred_book_cases(rt: HostRuntime) -> Result<(), Fail> {
-    let heap = rt.alloc();
-    let mut book = DeferredBook::new(heap)?;
-    play_all(&rt, heap, &mut book)
+    play_all::<DeferredBook>(&rt, rt.alloc())
+}
+
+#[test]
+fn refusal_numbers(rt: HostRuntime) {
+    for &(refusal, number) in &NUMBERS {
+        assert_eq!(rt; refusal.number(), number);
+    }
 }
