@@ -7,11 +7,13 @@ mod rows;
 mod worked;
 
 use agreement::closing_line;
+use capacity::NewBook;
 use deferred_book::DeferredBook;
 use plain_book::PlainBook;
 use slot_book::SlotBook;
+use std::alloc::Global;
 use std::io;
-use worked::account;
+use worked::Account;
 
 fn main(rt: HostRuntime) -> anyhow::Result<()> {
     run(&rt)
@@ -20,11 +22,16 @@ fn main(rt: HostRuntime) -> anyhow::Result<()> {
 // Works the account out over each book, and prints the three.
 fn run(rt: &HostRuntime) -> anyhow::Result<()> {
     let heap = rt.alloc();
-    let plain = account(heap, &mut PlainBook::new(heap)?)?;
-    let slot = account(heap, &mut SlotBook::new(heap)?)?;
-    let deferred = account(heap, &mut DeferredBook::new(heap)?)?;
+    let plain = account_over::<PlainBook>(heap)?;
+    let slot = account_over::<SlotBook>(heap)?;
+    let deferred = account_over::<DeferredBook>(heap)?;
     print_accounts(rt, &plain, &slot, &deferred)?;
     Ok(())
+}
+
+// The account of the worked example over a new book.
+fn account_over<B: NewBook + Drop>(heap: Global) -> anyhow::Result<String> {
+    Ok(Account::of(heap, B::new(heap)?)?.text)
 }
 
 // Each account under the name of its book, and the line that compares them.

@@ -1,5 +1,5 @@
 // The account of the worked example, over any book.
-ghost use Rattle.std.specs.Prelude.{◌≡◌, OnOk};
+ghost use Rattle.std.specs.Prelude.{◌≡◌, IfOk, OnOk};
 ghost use Rattle.capacity.specs.Calls.{cleared, owe_leaves};
 ghost use Rattle.capacity.specs.Filled.{filled, ran};
 ghost use Rattle.account.specs.Day.{orders_leave, day_end};
@@ -32,19 +32,109 @@ const SECOND_ORDER: u32 = 4;
 // Who gets the first slots.
 const OWNERS: [Option<u32>; 4] = [Some(12), Some(12), Some(12), None];
 
-// Fills a book with the worked example and writes its account, with an empty line before each part. A refusal, or want of memory,
-// ends it.
-pub(crate) fn account<B: Book>(heap: Global, book: &mut B) -> anyhow::Result<String>
-    ensures { OnOk result (B.Book.meaning book.new ≡ day_end) }
-{
-    let mut text = String::new(heap);
-    fill(book, HORIZON, &DEMANDS)?;
-    write_intervals(&mut text, book, &DEMANDS)?;
-    write_headroom(&mut text, book, &QUESTIONS)?;
-    write_orders(&mut text, book)?;
-    write_slots(&mut text, book, &OWNERS)?;
-    write_intervals(&mut text, book, &DEMANDS)?;
-    Ok(text)
+// A book, and the account of it as far as it is written.
+#[derive(Drop)]
+pub(crate) struct Account<B> {
+    pub(crate) text: String,
+    book: B,
+}
+
+impl<B: Book + Drop> Account<B> {
+    // Fills a book with the worked example and writes its account, with an empty line before each part. A refusal, or want of memory,
+    // ends it.
+    pub(crate) fn of(heap: Global, book: B) -> anyhow::Result<Account<B>>
+        ensures { IfOk result (λ a. B.Book.meaning a.book ≡ day_end) }
+    {
+        let text = String::new(heap);
+        let mut account = Account { text, book };
+        fill(&mut account.book, HORIZON, &DEMANDS)?;
+        account.write_intervals(&DEMANDS)?;
+        account.write_headroom(&QUESTIONS)?;
+        account.write_orders()?;
+        account.write_slots(&OWNERS)?;
+        account.write_intervals(&DEMANDS)?;
+        Ok(account)
+    }
+
+    // A line for each interval of the book, whose ends are those deadlines that are later than its clock.
+    fn write_intervals(&mut self, demands: &[Boundary]) -> anyhow::Result<()>
+        ensures { B.Book.meaning self.new.book ≡ B.Book.meaning self.old.book }
+    {
+        let clock = self.book.clock();
+        writeln!(self.text, "\nAt slot {clock}\n{HEADING}")?;
+        let mut from = clock;
+        let passed = demands.partition_point(|demand| demand.end <= clock);
+        for (interval, &Boundary { end, .. }) in (1..).zip(&demands[passed..]) {
+            let row = Row::of(&mut self.book, interval, from, end)?;
+            writeln!(self.text, "{row}")?;
+            from = end;
+        }
+        Ok(())
+    }
+
+    // The headroom at some slots, and whether the slot at the clock can be spared.
+    fn write_headroom(&mut self, slots: &[u32]) -> anyhow::Result<()>
+        ensures { B.Book.meaning self.new.book ≡ B.Book.meaning self.old.book }
+    {
+        writeln!(self.text, "\nHeadroom")?;
+        for &slot in slots {
+            let headroom = self.book.headroom(slot)?;
+            writeln!(self.text, "at {slot:>2}: {headroom:>2}")?;
+        }
+        let answer = if spares_slot(&mut self.book)? {
+            "yes"
+        } else {
+            "no"
+        };
+        writeln!(self.text, "the next slot can be spared: {answer}")?;
+        Ok(())
+    }
+
+    // The verdicts on two further demands. The first is taken back, so that the book is as it was.
+    fn write_orders(&mut self) -> anyhow::Result<()>
+        ensures { OnOk result (B.Book.meaning self.new.book ≡ orders_leave (B.Book.meaning self.old.book)) }
+    {
+        writeln!(self.text, "\nOrders")?;
+        self.write_verdict(DEADLINE, FIRST_ORDER)?;
+        self.write_verdict(DEADLINE, SECOND_ORDER)?;
+        self.book.forgive(DEADLINE, FIRST_ORDER)?;
+        writeln!(self.text, "forgive {FIRST_ORDER} at {DEADLINE}: accepted")?;
+        Ok(())
+    }
+
+    // The verdict on a demand that is owed beside what is due already.
+    fn write_verdict(&mut self, deadline: u32, demand: u32) -> anyhow::Result<()>
+        ensures { OnOk result
+            (B.Book.meaning self.new.book ≡ owe_leaves (B.Book.meaning self.old.book) deadline demand) }
+    {
+        let fit = if fits(&mut self.book, deadline, demand)? {
+            "fits"
+        } else {
+            "does not fit"
+        };
+        write!(self.text, "owe {demand} more at {deadline}: {fit}, ")?;
+        match self.book.owe(deadline, demand) {
+            Ok(()) => writeln!(self.text, "accepted"),
+            Err(refusal) => writeln!(self.text, "{refusal}"),
+        }?;
+        Ok(())
+    }
+
+    // Lets a slot pass for each owner in turn. The first refusal ends it.
+    fn write_slots(&mut self, owners: &[Option<u32>]) -> anyhow::Result<()>
+        ensures { OnOk result (B.Book.meaning self.new.book ≡ ran (B.Book.meaning self.old.book) owners.now) }
+    {
+        writeln!(self.text, "\nSlots")?;
+        for &owner in owners {
+            let slot = self.book.clock();
+            self.book.run(owner)?;
+            match owner {
+                Some(deadline) => writeln!(self.text, "{slot:>2}: for {deadline}"),
+                None => writeln!(self.text, "{slot:>2}: for nobody"),
+            }?;
+        }
+        Ok(())
+    }
 }
 
 // Clears a book to a horizon, cuts it at each deadline and owes the demand there. The first refusal ends it.
@@ -52,99 +142,9 @@ fn fill<B: Book>(book: &mut B, horizon: u32, demands: &[Boundary]) -> Result<(),
     ensures { OnOk result (B.Book.meaning book.new ≡ filled (cleared horizon) demands.now) }
 {
     book.clear(horizon)?;
-    for demand in demands {
-        book.cut(demand.end)?;
-        book.owe(demand.end, demand.due)?;
-    }
-    Ok(())
-}
-
-// A line for each interval of a book, whose ends are those deadlines that are later than its clock.
-fn write_intervals<B: Book>(
-    text: &mut String,
-    book: &mut B,
-    demands: &[Boundary],
-) -> anyhow::Result<()>
-    ensures { B.Book.meaning book.new ≡ B.Book.meaning book.old }
-{
-    let mut from = book.clock();
-    let mut interval = 0usize;
-    writeln!(text, "\nAt slot {from}\n{HEADING}")?;
-    for demand in demands {
-        if demand.end > from {
-            interval = interval.saturating_add(1);
-            let row = Row::of(book, interval, from, demand.end)?;
-            writeln!(text, "{row}")?;
-            from = demand.end;
-        }
-    }
-    Ok(())
-}
-
-// The headroom at some slots, and whether the slot at the clock can be spared.
-fn write_headroom<B: Book>(text: &mut String, book: &mut B, slots: &[u32]) -> anyhow::Result<()>
-    ensures { B.Book.meaning book.new ≡ B.Book.meaning book.old }
-{
-    writeln!(text, "\nHeadroom")?;
-    for slot in slots {
-        let headroom = book.headroom(*slot)?;
-        writeln!(text, "at {slot:>2}: {headroom:>2}")?;
-    }
-    let answer = if spares_slot(book)? { "yes" } else { "no" };
-    writeln!(text, "the next slot can be spared: {answer}")?;
-    Ok(())
-}
-
-// The verdicts on two further demands. The first is taken back, so that the book is as it was.
-fn write_orders<B: Book>(text: &mut String, book: &mut B) -> anyhow::Result<()>
-    ensures { OnOk result (B.Book.meaning book.new ≡ orders_leave (B.Book.meaning book.old)) }
-{
-    writeln!(text, "\nOrders")?;
-    write_verdict(text, book, DEADLINE, FIRST_ORDER)?;
-    write_verdict(text, book, DEADLINE, SECOND_ORDER)?;
-    book.forgive(DEADLINE, FIRST_ORDER)?;
-    writeln!(text, "forgive {FIRST_ORDER} at {DEADLINE}: accepted")?;
-    Ok(())
-}
-
-// The verdict on a demand that is owed beside what is due already.
-fn write_verdict<B: Book>(
-    text: &mut String,
-    book: &mut B,
-    deadline: u32,
-    demand: u32,
-) -> anyhow::Result<()>
-    ensures { OnOk result (B.Book.meaning book.new ≡ owe_leaves (B.Book.meaning book.old) deadline demand) }
-{
-    let fit = if fits(book, deadline, demand)? {
-        "fits"
-    } else {
-        "does not fit"
-    };
-    write!(text, "owe {demand} more at {deadline}: {fit}, ")?;
-    match book.owe(deadline, demand) {
-        Ok(()) => writeln!(text, "accepted"),
-        Err(refusal) => writeln!(text, "{refusal}"),
-    }?;
-    Ok(())
-}
-
-// Lets a slot pass for each owner in turn. The first refusal ends it.
-fn write_slots<B: Book>(
-    text: &mut String,
-    book: &mut B,
-    owners: &[Option<u32>],
-) -> anyhow::Result<()>
-    ensures { OnOk result (B.Book.meaning book.new ≡ ran (B.Book.meaning book.old) owners.now) }
-{
-    writeln!(text, "\nSlots")?;
-    for owner in owners {
-        let slot = book.clock();
-        book.run(*owner)?;
-        match owner {
-            Some(deadline) => writeln!(text, "{slot:>2}: for {deadline}"),
-            None => writeln!(text, "{slot:>2}: for nobody"),
-        }?;
+    for &Boundary { end, due } in demands {
+        book.cut(end)?;
+        book.owe(end, due)?;
     }
     Ok(())
 }
