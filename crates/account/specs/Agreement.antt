@@ -8,4 +8,4 @@ SameThree a b c = (a ≡ b) × (b ≡ c)
 -- A line that says whether P holds of the three books.
 abbrev pub ClosedBy : Type 0 → List ℕ → Type 0
 ClosedBy P line =
-    (P → line ≡ codes "The three books agree.") × ((P → ⊥) → line ≡ codes "The three books do not agree.")
+    (P → line ≡ codes "The three books agree.") × (¬ P → line ≡ codes "The three books do not agree.")

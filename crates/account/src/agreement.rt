@@ -1,5 +1,5 @@
 // Whether the accounts of the three books are the same text.
-ghost use Rattle.std.specs.Prelude.{Decides};
+ghost use Rattle.std.specs.Prelude.{◌↔◌, IsTrue};
 ghost use Rattle.account.specs.Agreement.{SameThree, ClosedBy};
 
 // What the last line says.
@@ -9,7 +9,7 @@ const DISAGREE: &str = "The three books do not agree.";
 
 // Whether three texts are the same, byte for byte.
 fn agree(first: &str, second: &str, third: &str) -> bool
-    ensures { Decides result (SameThree first.now second.now third.now) }
+    ensures { IsTrue result ↔ SameThree first.now second.now third.now }
 {
     first == second && second == third
 }

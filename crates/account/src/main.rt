@@ -16,12 +16,11 @@ use std::io;
 use worked::Account;
 
 fn main(rt: HostRuntime) -> anyhow::Result<()> {
-    run(&rt)
+    run(&rt, rt.alloc())
 }
 
 // Works the account out over each book, and prints the three.
-fn run(rt: &HostRuntime) -> anyhow::Result<()> {
-    let heap = rt.alloc();
+fn run(rt: &impl Print, heap: Global) -> anyhow::Result<()> {
     let plain = account_over::<PlainBook>(heap)?;
     let slot = account_over::<SlotBook>(heap)?;
     let deferred = account_over::<DeferredBook>(heap)?;
@@ -35,7 +34,7 @@ fn account_over<B: NewBook + Drop>(heap: Global) -> anyhow::Result<String> {
 }
 
 // Each account under the name of its book, and the line that compares them.
-fn print_accounts(rt: &HostRuntime, plain: &str, slot: &str, deferred: &str) -> io::Result<()> {
+fn print_accounts(rt: &impl Print, plain: &str, slot: &str, deferred: &str) -> io::Result<()> {
     println!(rt; "Account of the worked example\n")?;
     println!(rt; "Plain book\n{plain}")?;
     println!(rt; "Slot-by-slot book\n{slot}")?;

@@ -47,6 +47,7 @@ fn due_from(width: u32, own: i32, next: i32) -> i64
 }
 
 // The spare capacity of the interval behind this one; nought where there is none.
+#[tactic(auto, using(capacity::proofs::Intervals::spare_past))]
 fn spare_behind<B: Book>(book: &mut B, interval: usize) -> Result<i32, Refusal>
     ensures answer { said result ≡ value (spare_of (B.Book.meaning book.old) (interval + 1)) }
     ensures same { B.Book.meaning book.new ≡ B.Book.meaning book.old }

@@ -42,12 +42,13 @@ pub(crate) struct Account<B> {
 impl<B: Book + Drop> Account<B> {
     // Fills a book with the worked example and writes its account, with an empty line before each part. A refusal, or want of memory,
     // ends it.
-    pub(crate) fn of(heap: Global, book: B) -> anyhow::Result<Account<B>>
+    #[tactic(auto, using(crate::proofs::Ends::day_ends))]
+    pub(crate) fn of(heap: Global, mut book: B) -> anyhow::Result<Account<B>>
         ensures { IfOk result (λ a. B.Book.meaning a.book ≡ day_end) }
     {
+        fill(&mut book, HORIZON, &DEMANDS)?;
         let text = String::new(heap);
         let mut account = Account { text, book };
-        fill(&mut account.book, HORIZON, &DEMANDS)?;
         account.write_intervals(&DEMANDS)?;
         account.write_headroom(&QUESTIONS)?;
         account.write_orders()?;
@@ -56,7 +57,7 @@ impl<B: Book + Drop> Account<B> {
         Ok(account)
     }
 
-    // A line for each interval of the book, whose ends are those deadlines that are later than its clock.
+    // A line for each interval of the book, whose ends are those deadlines that are later than its clock. The deadlines rise.
     fn write_intervals(&mut self, demands: &[Boundary]) -> anyhow::Result<()>
         ensures { B.Book.meaning self.new.book ≡ B.Book.meaning self.old.book }
     {
