@@ -1,3 +1,2 @@
 mod Turns
 mod Writes
-mod Passing

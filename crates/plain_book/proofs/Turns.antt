@@ -7,12 +7,12 @@ use Rattle.capacity.proofs.Suffixes.{Placed, placed, short_from}
 
 pub turn :
     (book : PlainBook) (interval : Interval) (k behind : ℕ) → 0 < k → k ≤ length (vec_items book.boundaries) →
-    interval.start ≡ start_at book.clock (vec_items book.boundaries) (k - 1) →
+    interval.start ≡ start_at book.time.clock (vec_items book.boundaries) (k - 1) →
     interval.end ≡ (boundary_at (vec_items book.boundaries) (k - 1)).end →
     interval.due ≡ (boundary_at (vec_items book.boundaries) (k - 1)).due →
-    behind ≡ short_from book.clock (vec_items book.boundaries) k →
-    Placed book.clock (vec_items book.boundaries) book.horizon (k - 1) k interval.start interval.end
+    behind ≡ short_from book.time.clock (vec_items book.boundaries) k →
+    Placed book.time.clock (vec_items book.boundaries) book.time.horizon (k - 1) k interval.start interval.end
     interval.due behind
 turn book interval k behind lt within start end due taken =
-    placed book.clock (vec_items book.boundaries) book.horizon k book.ordered book.bounded lt within
+    placed book.time.clock (vec_items book.boundaries) book.time.horizon k book.ordered book.bounded lt within
     interval.start interval.end interval.due behind start end due taken

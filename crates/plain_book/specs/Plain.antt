@@ -5,4 +5,4 @@ use Rattle.plain_book.specs.declared.plain.PlainBook.{PlainBook}
 
 -- Just what it keeps.
 abbrev pub plain_meaning : PlainBook → Meaning
-plain_meaning p = record { clock = p.clock; horizon = p.horizon; boundaries = vec_items p.boundaries }
+plain_meaning p = record { clock = p.time.clock; horizon = p.time.horizon; boundaries = vec_items p.boundaries }

@@ -29,10 +29,10 @@ impl PlainBook {
     // Where the interval at a place begins.
     fn start(&self, place: usize) -> u32
         requires { place ≤ vec_len self.now.boundaries }
-        ensures { result ≡ start_at self.now.clock self.now.boundaries.items place }
+        ensures { result ≡ start_at self.now.time.clock self.now.boundaries.items place }
     {
         if place == 0 {
-            self.clock
+            self.time.clock
         } else {
             self.boundaries[place - 1].end
         }
@@ -41,7 +41,7 @@ impl PlainBook {
     // The interval at a place.
     pub(crate) fn interval(&self, place: usize) -> Interval
         requires { place < vec_len self.now.boundaries }
-        ensures start { result.start ≡ start_at self.now.clock self.now.boundaries.items place }
+        ensures start { result.start ≡ start_at self.now.time.clock self.now.boundaries.items place }
         ensures end { result.end ≡ (boundary_at self.now.boundaries.items place).end }
         ensures due { result.due ≡ (boundary_at self.now.boundaries.items place).due }
     {
@@ -53,7 +53,7 @@ impl PlainBook {
     // What the intervals from a place on take from before it.
     pub(crate) fn lacking(&self, from: usize) -> u32
         requires { from ≤ vec_len self.now.boundaries }
-        ensures { result ≡ short (start_at self.now.clock self.now.boundaries.items from) (drop from self.now.boundaries.items) }
+        ensures { result ≡ short (start_at self.now.time.clock self.now.boundaries.items from) (drop from self.now.boundaries.items) }
     {
         let mut behind = 0;
         for place in (from..self.boundaries.len()).rev() {
@@ -64,7 +64,7 @@ impl PlainBook {
 
     // The headroom at a deadline that is to come: of each interval what it has free, and no more than lies before the deadline.
     pub(crate) fn room(&self, deadline: u32) -> u32
-        requires { self.now.clock ≤ deadline }
+        requires { self.now.time.clock ≤ deadline }
         ensures { result ≡ headroom (plain_meaning self.now) deadline }
     {
         let mut behind = 0;

@@ -2,21 +2,19 @@
 ghost use Rattle.std.specs.Prelude.{◌≡◌, ◌≤◌, true, vec_len, vec_capacity};
 ghost use Rattle.capacity.specs.Shortage.{short};
 ghost use Rattle.capacity.specs.Slack.{rises};
-ghost use Rattle.terms.specs.Limits.{longest_horizon, most_boundaries};
+ghost use Rattle.terms.specs.Limits.{most_boundaries};
 
-use capacity::Boundary;
+use capacity::{Boundary, Timeline};
 
-// A clock, a horizon, and the boundaries to come with the demand due at each.
+// The slots to come, and the boundaries to come with the demand due at each.
 #[derive(Drop)]
 pub struct PlainBook {
-    pub(crate) clock: u32,
-    pub(crate) horizon: u32,
+    pub(crate) time: Timeline,
     pub(crate) boundaries: Vec<Boundary>,
     // The boundaries rise from the clock to the horizon.
-    ghost ordered: { rises clock boundaries.items horizon ≡ true },
+    ghost ordered: { rises time.clock boundaries.items time.horizon ≡ true },
     // They take no more from before the clock than the slots that have passed. This bounds every sum that is formed.
-    ghost bounded: { short clock boundaries.items ≤ clock },
-    ghost ranged: { horizon ≤ longest_horizon },
+    ghost bounded: { short time.clock boundaries.items ≤ time.clock },
     ghost few: { vec_len boundaries ≤ most_boundaries },
     ghost room: { most_boundaries ≤ vec_capacity boundaries },
 }

@@ -11,4 +11,4 @@ invariant_of-self c =
     let coming : to_come (plain_meaning book) c.args.deadline ≡ true = search rules in
     let items : vec_items c.insert.new.self ≡ insert (vec_items book.boundaries) c.in-Err.place (record { end = c.args.deadline; due = 0 }) = search rules in
     let k = cut_keeps book _ _ _ c.in-Err.ensures coming items in
-    record { ordered = k.0; bounded = k.1; ranged = book.ranged; few = search rules; room = search rules }
+    record { ordered = k.0; bounded = k.1; few = search rules; room = search rules }

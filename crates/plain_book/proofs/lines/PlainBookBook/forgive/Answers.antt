@@ -16,4 +16,4 @@ invariant_of-self c =
     forgive_keeps book c.index_mut.result.now c.args.deadline c.in-Ok.place c.args.demand
     c.in-Ok.ensures c.index_mut.ensures.value
     in
-    record { ordered = k.0; bounded = k.1; ranged = book.ranged; few = search rules; room = search rules }
+    record { ordered = k.0; bounded = k.1; few = search rules; room = search rules }

@@ -8,8 +8,8 @@ pub invariant_of-result : goal.invariant_of-result
 invariant_of-result c =
     let book = c.args.self.now in
     let within : c.args.place < length (vec_items book.boundaries) = search rules in
-    let p = placed_at _ _ book.horizon c.args.place book.ordered book.bounded within in
+    let p = placed_at _ _ book.time.horizon c.args.place book.ordered book.bounded within in
     let read : c.index.result.now.end ≡ (boundary_at (vec_items book.boundaries) c.args.place).end =
     ap (λ b. b.end) (get_or_read _ _ _ within c.index.ensures _)
     in
-    record { wide = omega (arith, p.wide); early = omega (arith, p.early, book.ranged) }
+    record { wide = omega (arith, p.wide); early = omega (arith, p.early, book.time.ranged) }

@@ -7,7 +7,7 @@ pub loop-place-init : goal.loop-place-init
 loop-place-init c =
     let bs = vec_items c.args.self.now.boundaries in
     let all : c.len-place.result ≡ length bs = search rules in
-    (search rules, rw all (sym (short_all c.args.self.now.clock bs)))
+    (search rules, rw all (sym (short_all c.args.self.now.time.clock bs)))
 
 pub lacking-behind-requires : goal.lacking-behind-requires
 lacking-behind-requires c =
@@ -26,5 +26,5 @@ pub returns : goal.returns
 returns c =
     let book = c.args.self.now in
     let first : c.loop-place.place ≡ c.args.from = omega arith in
-    let P : ℕ → Type 0 = λ k. c.loop-place.behind ≡ short_from book.clock (vec_items book.boundaries) k in
+    let P : ℕ → Type 0 = λ k. c.loop-place.behind ≡ short_from book.time.clock (vec_items book.boundaries) k in
     subst P first c.loop-place.invariant.1

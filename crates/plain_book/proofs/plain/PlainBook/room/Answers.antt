@@ -9,7 +9,7 @@ loop-place-init c =
     let book = c.args.self.now in
     let bs = vec_items book.boundaries in
     let all : c.len-place.result ≡ length bs = search rules in
-    (rw all (sym (short_all book.clock bs)), rw all (sym (room_all book.clock bs c.args.deadline)))
+    (rw all (sym (short_all book.time.clock bs)), rw all (sym (room_all book.time.clock bs c.args.deadline)))
 
 pub free_before-room-requires : goal.free_before-room-requires
 free_before-room-requires c =
@@ -22,10 +22,10 @@ overflow_add-room c =
     let book = c.args.self.now in
     let within : c.loop-place.place ≤ length (vec_items book.boundaries) = search rules in
     let most =
-    room_from_le book.clock (vec_items book.boundaries) book.horizon c.loop-place.place c.args.deadline
+    room_from_le book.time.clock (vec_items book.boundaries) book.time.horizon c.loop-place.place c.args.deadline
     book.ordered within
     in
-    let so_far : c.loop-place.room ≤ 1000000 = omega (arith, c.loop-place.invariant.1, book.ranged) in
+    let so_far : c.loop-place.room ≤ 1000000 = omega (arith, c.loop-place.invariant.1, book.time.ranged) in
     let here : c.free_before-room.result ≤ 1000000 = omega (arith, c.interval-interval.result.early) in
     search rules
 
@@ -49,6 +49,6 @@ returns c =
     let book = c.args.self.now in
     let bs = vec_items book.boundaries in
     let first : c.loop-place.place ≡ 0 = omega arith in
-    let P : ℕ → Type 0 = λ k. c.loop-place.room ≡ room_from book.clock bs k c.args.deadline in
+    let P : ℕ → Type 0 = λ k. c.loop-place.room ≡ room_from book.time.clock bs k c.args.deadline in
     subst P first c.loop-place.invariant.1
-    ∙ sym (headroom_is_room book.clock bs book.horizon c.args.deadline book.ordered c.requires)
+    ∙ sym (headroom_is_room book.time.clock bs book.time.horizon c.args.deadline book.ordered c.requires)
