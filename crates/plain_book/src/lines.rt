@@ -97,13 +97,10 @@ impl Book for PlainBook {
     }
 
     fn run(&mut self, owner: Option<u32>) -> Result<(), Refusal> {
-        match owner {
-            None => self.pass(),
-            Some(deadline) => {
-                self.forgive(deadline, 1)?;
-                self.pass()
-            }
+        if let Some(deadline) = owner {
+            self.forgive(deadline, 1)?;
         }
+        self.pass()
     }
 
     fn clock(&self) -> u32 {
