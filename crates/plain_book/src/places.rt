@@ -15,15 +15,8 @@ impl PlainBook {
     pub(crate) fn find(&self, deadline: u32) -> Result<usize, usize>
         ensures { Found self.now.boundaries.items deadline result }
     {
-        for (i, boundary) in self.boundaries.iter().enumerate() {
-            if boundary.end == deadline {
-                return Ok(i);
-            }
-            if boundary.end > deadline {
-                return Err(i);
-            }
-        }
-        Err(self.boundaries.len())
+        self.boundaries
+            .binary_search_by_key(&deadline, |boundary| boundary.end)
     }
 
     // Where the interval at a place begins.

@@ -1,13 +1,13 @@
-use Rattle.std.proofs.Common.{arith, rules}
-use Rattle.capacity.proofs.Places.{stands, lacks}
+use Rattle.std.proofs.Common.{length, ap, rules}
+use Rattle.std.proofs.lemmas.List.Sorted.{answers_always}
+use Rattle.capacity.specs.Intervals.{boundary_at}
+use Rattle.capacity.proofs.Searching.{found}
 use Rattle.plain_book.proofs.plain.PlainBook.find.Goals as goal
 
-pub returns-then-boundary-deadline : goal.returns-then-boundary-deadline
-returns-then-boundary-deadline c = stands _ _ _ c.loop-i.invariant (search rules) (search rules)
-
-pub returns-then-boundary-deadline-2 : goal.returns-then-boundary-deadline-2
-returns-then-boundary-deadline-2 c =
-    lacks _ _ _ _ _ c.args.self.now.ordered c.loop-i.invariant (search rules) (λ _. search rules)
-
+-- the closure gives a boundary's end, and the slice is the book's boundaries
 pub returns : goal.returns
-returns c = lacks _ _ _ _ _ c.args.self.now.ordered (search rules) (search rules) (λ lt. absurd (omega arith))
+returns c =
+    let facts = c.binary_search_by_key.ensures in
+    let same = c.deref.ensures.value in
+    let by_end = facts.position (λ b. b.end) (answers_always _ _ _ (λ f a r g called. search rules)) in
+    found (λ b. b.end) _ _ _ _ _ _ c.args.self.now.ordered (ap length same) (λ k _. ap (λ bs. (boundary_at bs k).end) same) _ facts.bound by_end
