@@ -1,2 +1,2 @@
-mod Turns
+mod Latest
 mod Writes

@@ -4,6 +4,5 @@
 mod lines;
 mod places;
 mod plain;
-mod sums;
 
 pub use plain::PlainBook;

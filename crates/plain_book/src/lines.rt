@@ -115,8 +115,8 @@ impl Book for PlainBook {
         if interval < 1 || interval > self.boundaries.len() {
             return Err(Refusal::Unfit);
         }
-        let behind = self.lacking(interval);
-        Ok(self.interval(interval - 1).spare(behind))
+        let place = interval - 1;
+        Ok(self.latest(place) as i32 - self.start(place) as i32)
     }
 
     fn headroom(&mut self, deadline: u32) -> Result<u32, Refusal> {

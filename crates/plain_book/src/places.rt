@@ -1,14 +1,20 @@
-// Finding places in the plain book, and summing over the intervals from a place on.
-ghost use Rattle.std.specs.Prelude.{◌≡◌, ◌<◌, ◌≤◌, drop, vec_len};
-ghost use Rattle.capacity.specs.Shortage.{short};
+// Finding places in the plain book, and the latest start of the work from a place on.
+ghost use Rattle.std.specs.Prelude.{◌≡◌, ◌-◌, ◌≤◌, min, drop, vec_len};
 ghost use Rattle.capacity.specs.Spare.{headroom};
-ghost use Rattle.capacity.specs.Intervals.{start_at, boundary_at};
+ghost use Rattle.capacity.specs.Intervals.{start_at};
 ghost use Rattle.capacity.specs.Places.{Found};
+ghost use Rattle.plain_book.specs.Latest.{latest_start, latest};
 ghost use Rattle.plain_book.specs.Plain.{plain_meaning};
 
 use crate::PlainBook;
-use crate::sums::Interval;
 use capacity::Boundary;
+
+// The latest start of the work from a boundary on, from the latest start behind it.
+fn latest_start(behind: u32, boundary: &Boundary) -> u32
+    ensures { result ≡ latest_start behind boundary.now }
+{
+    boundary.end.min(behind).saturating_sub(boundary.due)
+}
 
 impl PlainBook {
     // The place of a deadline among the boundaries, or the place that it would have.
@@ -20,39 +26,24 @@ impl PlainBook {
     }
 
     // Where the interval at a place begins.
-    fn start(&self, place: usize) -> u32
+    pub(crate) fn start(&self, place: usize) -> u32
         requires { place ≤ vec_len self.now.boundaries }
         ensures { result ≡ start_at self.now.time.clock self.now.boundaries.items place }
     {
-        if place == 0 {
-            self.time.clock
-        } else {
-            self.boundaries[place - 1].end
-        }
+        self.boundaries[..place]
+            .last()
+            .map_or(self.time.clock, |before| before.end)
     }
 
-    // The interval at a place.
-    pub(crate) fn interval(&self, place: usize) -> Interval
-        requires { place < vec_len self.now.boundaries }
-        ensures start { result.start ≡ start_at self.now.time.clock self.now.boundaries.items place }
-        ensures end { result.end ≡ (boundary_at self.now.boundaries.items place).end }
-        ensures due { result.due ≡ (boundary_at self.now.boundaries.items place).due }
-    {
-        let start = self.start(place);
-        let Boundary { end, due } = self.boundaries[place];
-        Interval { start, end, due }
-    }
-
-    // What the intervals from a place on take from before it.
-    pub(crate) fn lacking(&self, from: usize) -> u32
+    // The latest start of the work from a place on.
+    pub(crate) fn latest(&self, from: usize) -> u32
         requires { from ≤ vec_len self.now.boundaries }
-        ensures { result ≡ short (start_at self.now.time.clock self.now.boundaries.items from) (drop from self.now.boundaries.items) }
+        ensures { result ≡ latest self.now.time.horizon (drop from self.now.boundaries.items) }
     {
-        let mut behind = 0;
-        for place in (from..self.boundaries.len()).rev() {
-            behind = self.interval(place).lacking(behind);
-        }
-        behind
+        self.boundaries[from..]
+            .iter()
+            .rev()
+            .fold(self.time.horizon, latest_start)
     }
 
     // The headroom at a deadline that is to come: of each interval what it has free, and no more than lies before the deadline.
@@ -60,12 +51,11 @@ impl PlainBook {
         requires { self.now.time.clock ≤ deadline }
         ensures { result ≡ headroom (plain_meaning self.now) deadline }
     {
-        let mut behind = 0;
+        let mut latest = self.time.horizon;
         let mut room = 0;
         for place in (0..self.boundaries.len()).rev() {
-            let interval = self.interval(place);
-            room += interval.free_before(deadline, behind);
-            behind = interval.lacking(behind);
+            latest = latest_start(latest, &self.boundaries[place]);
+            room += latest.min(deadline).saturating_sub(self.start(place));
         }
         room
     }
