@@ -1,2 +1,3 @@
+mod Headroom
 mod Latest
 mod Writes

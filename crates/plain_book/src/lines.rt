@@ -72,12 +72,11 @@ impl Book for PlainBook {
     }
 
     fn owe(&mut self, deadline: u32, demand: u32) -> Result<(), Refusal> {
-        let Ok(place) = self.find(deadline) else {
-            return Err(Refusal::Unfit);
-        };
-        if demand < 1 {
-            return Err(Refusal::Unfit);
-        }
+        let place = self
+            .find(deadline)
+            .ok()
+            .filter(|_| demand >= 1)
+            .ok_or(Refusal::Unfit)?;
         if demand > self.room(deadline) {
             return Err(Refusal::NoCapacity);
         }
@@ -86,12 +85,11 @@ impl Book for PlainBook {
     }
 
     fn forgive(&mut self, deadline: u32, demand: u32) -> Result<(), Refusal> {
-        let Ok(place) = self.find(deadline) else {
-            return Err(Refusal::NotHeld);
-        };
-        if demand > self.boundaries[place].due {
-            return Err(Refusal::NotHeld);
-        }
+        let place = self
+            .find(deadline)
+            .ok()
+            .filter(|&place| demand <= self.boundaries[place].due)
+            .ok_or(Refusal::NotHeld)?;
         self.boundaries[place].due -= demand;
         Ok(())
     }

@@ -46,9 +46,8 @@ impl PlainBook {
             .fold(self.time.horizon, latest_start)
     }
 
-    // The headroom at a deadline that is to come: of each interval what it has free, and no more than lies before the deadline.
+    // The headroom at a deadline: of each interval what it has free, and no more than lies before the deadline.
     pub(crate) fn room(&self, deadline: u32) -> u32
-        requires { self.now.time.clock ≤ deadline }
         ensures { result ≡ headroom (plain_meaning self.now) deadline }
     {
         let mut latest = self.time.horizon;

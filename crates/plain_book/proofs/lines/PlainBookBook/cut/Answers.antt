@@ -1,14 +1,11 @@
-use Rattle.std.proofs.Common.{◌≡◌, true, vec_items, rules}
-use Rattle.std.specs.List.{insert}
-use Rattle.capacity.specs.Calls.{to_come}
-use Rattle.plain_book.specs.Plain.{plain_meaning}
-use Rattle.plain_book.proofs.Writes.{cut_keeps}
+use Rattle.std.proofs.Common.{arith}
+use Rattle.std.proofs.lemmas.Bool.Decides.{nat_tests}
+use Rattle.std.proofs.lemmas.Grind.{common_steps}
+use Rattle.capacity.proofs.Keeps.{rises_with_boundary, short_with_boundary}
 use Rattle.plain_book.proofs.lines.PlainBookBook.cut.Goals as goal
 
-pub invariant_of-self : goal.invariant_of-self
-invariant_of-self c =
-    let book = c.args.self.now in
-    let coming : to_come (plain_meaning book) c.args.deadline ≡ true = search rules in
-    let items : vec_items c.insert.new.self ≡ insert (vec_items book.boundaries) c.in-Err.place (record { end = c.args.deadline; due = 0 }) = search rules in
-    let k = cut_keeps book _ _ _ c.in-Err.ensures coming items in
-    record { ordered = k.0; bounded = k.1; few = search rules; room = search rules }
+pub invariant_of-self-clause-ordered : goal.invariant_of-self-clause-ordered
+invariant_of-self-clause-ordered c = grind (arith, nat_tests, rises_with_boundary)
+
+pub invariant_of-self-clause-bounded : goal.invariant_of-self-clause-bounded
+invariant_of-self-clause-bounded c = grind (arith, nat_tests, short_with_boundary)

@@ -1,6 +1,6 @@
 use Rattle.std.proofs.Common.{arith, rules}
 use Rattle.std.proofs.lemmas.Grind.{common_steps}
-use Rattle.capacity.proofs.Naturals.{headroom_is_room}
+use Rattle.plain_book.proofs.Headroom.{headroom_is}
 use Rattle.capacity.proofs.Suffixes.{room_from_le}
 use Rattle.plain_book.proofs.Latest.{turn}
 use Rattle.plain_book.proofs.plain.PlainBook.room.Goals as goal
@@ -16,4 +16,4 @@ loop-place-preserved c =
     (grind (arith, t), grind (arith, t))
 
 pub returns : goal.returns
-returns c = grind (arith, common_steps, headroom_is_room)
+returns c = grind (arith, common_steps, headroom_is)
