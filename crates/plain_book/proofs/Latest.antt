@@ -66,15 +66,15 @@ module _ (h : ℕ) where
 
 -- one turn of a sum over the intervals of a book, from the last to the first: b stands before place k
 pub turn :
-    (book : PlainBook) (k d : ℕ) (b : Boundary) → 0 < k → k ≤ length (vec_items book.boundaries) →
+    (book : PlainBook) (b : Boundary) (k d : ℕ) → 0 < k → k ≤ length (vec_items book.boundaries) →
     b ≡ get_or (vec_items book.boundaries) (k - 1) b →
     let bs = vec_items book.boundaries in
     let s = book.time.clock in
     let h = book.time.horizon in
-    (latest h (drop (k - 1) bs) ≡ latest_start (latest h (drop k bs)) b)
-    × (room_from s bs (k - 1) d ≡ room_from s bs k d + (min (latest h (drop (k - 1) bs)) d - start_at s bs (k - 1)))
-turn book zero d b some within read = absurd (omega arith)
-turn book (suc k) d b some within read =
+    (room_from s bs (k - 1) d ≡ room_from s bs k d + (min (latest h (drop (k - 1) bs)) d - start_at s bs (k - 1)))
+    × (latest h (drop (k - 1) bs) ≡ latest_start (latest h (drop k bs)) b)
+turn book b zero d some within read = absurd (omega arith)
+turn book b (suc k) d some within read =
     let bs = vec_items book.boundaries in
     let same : suc k - 1 ≡ k = omega arith in
-    rw same (latest_at book.time.horizon bs k b (omega arith) (rw same at read), room_at book.time.horizon book.time.clock bs k d book.ordered book.bounded (omega arith))
+    rw same (room_at book.time.horizon book.time.clock bs k d book.ordered book.bounded (omega arith), latest_at book.time.horizon bs k b (omega arith) (rw same at read))

@@ -1,6 +1,5 @@
 use Rattle.std.proofs.Common.{arith}
 use Rattle.std.proofs.lemmas.Bool.Decides.{nat_tests}
-use Rattle.std.proofs.lemmas.Grind.{common_steps}
 use Rattle.capacity.proofs.Keeps.{rises_with_boundary, short_with_boundary}
 use Rattle.plain_book.proofs.lines.PlainBookBook.cut.Goals as goal
 

@@ -9,5 +9,6 @@ pub returns : goal.returns
 returns c =
     let facts = c.binary_search_by_key.ensures in
     let same = c.deref.ensures.value in
-    let by_end = facts.position (λ b. b.end) (answers_always _ _ _ (λ f a r g called. search rules)) in
-    found (λ b. b.end) _ _ _ _ _ _ c.args.self.now.ordered (ap length same) (λ k _. ap (λ bs. (boundary_at bs k).end) same) _ facts.bound by_end
+    found (λ b. b.end) _ _ _ _ _ _ c.args.self.now.ordered (ap length same)
+    (λ k _. ap (λ bs. (boundary_at bs k).end) same) _ facts.bound
+    (facts.position (λ b. b.end) (search (rules, answers_always)))
