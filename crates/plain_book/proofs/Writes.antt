@@ -1,14 +1,14 @@
 -- What the writes of a plain book keep: its boundaries rise, and take no more from before the clock than has passed.
 use Rattle.std.proofs.Common.{◌≡◌, ℕ, zero, suc, ◌+◌, ◌-◌, ◌<◌, ◌≤◌, true, ltb, ◌&&◌, List, [], ◌∷◌, length, get_or, set, refl, ap, ◌∙◌, arith}
+use Rattle.std.proofs.lemmas.List.{get_or_read}
 use Rattle.capacity.specs.declared.boundary.Boundary.{Boundary}
+use Rattle.capacity.specs.Places.{Stands}
 use Rattle.capacity.specs.Shortage.{short}
 use Rattle.capacity.specs.Slack.{rises}
-use Rattle.capacity.specs.Places.{Stands}
 use Rattle.capacity.specs.Spare.{headroom_from}
-use Rattle.plain_book.proofs.Headroom.{headroom_is}
-use Rattle.std.proofs.lemmas.List.{get_or_read}
 use Rattle.capacity.proofs.Least.{rises_le}
 use Rattle.capacity.proofs.Naturals.{room, room_none, rises_first, rises_rest}
+use Rattle.plain_book.proofs.Headroom.{headroom_is}
 
 -- b, read at place i, has another demand due from now on
 pub rises-set :

@@ -13,7 +13,7 @@ pub struct PlainBook {
     pub(crate) boundaries: Vec<Boundary>,
     // The boundaries rise from the clock to the horizon.
     ghost ordered: { rises time.clock boundaries.items time.horizon ≡ true },
-    // They take no more from before the clock than the slots that have passed. This bounds every sum that is formed.
+    // They take no more from before the clock than the slots that have passed, so that no latest start lies before 0.
     ghost bounded: { short time.clock boundaries.items ≤ time.clock },
     ghost few: { vec_len boundaries ≤ most_boundaries },
     ghost room: { most_boundaries ≤ vec_capacity boundaries },
