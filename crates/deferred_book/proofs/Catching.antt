@@ -1,16 +1,18 @@
 -- Catching up with noted slots.
-use Rattle.std.proofs.Common.{◌≡◌, ℕ, ◌+◌, ◌-◌, ◌<◌, ◌≤◌, true, false, List, [], ◌∷◌, length, replicate, Some, None, Option, sym, refl, arith}
-use Rattle.std.proofs.lemmas.Bool.{lt-ltb, le-leb, eqb-true, ne_eqb}
+use Rattle.std.proofs.Common.{◌≡◌, ℕ, ◌+◌, ◌-◌, ◌<◌, ◌≤◌, true, List, [], ◌∷◌, length, replicate, Some, None, Ok, Err, Result, sym, refl, arith}
+use Rattle.std.specs.Result.{IsOk}
+use Rattle.std.proofs.lemmas.Bool.{lt-ltb, le-leb, eqb-true}
 use Rattle.capacity.specs.declared.boundary.Boundary.{Boundary}
-use Rattle.capacity.specs.Calls.{later_than, passed, with_due, due_at, unowned, run_says, run_leaves}
+use Rattle.capacity.specs.Calls.{later_than, passed, with_due, due_at}
 use Rattle.capacity.specs.Meaning.{Meaning}
-use Rattle.capacity.specs.Noted.{unserved, caught_up, first_end, catch_up_leaves}
+use Rattle.capacity.specs.Noted.{unserved, caught_up, first_end, catch_up_says, catch_up_leaves}
 use Rattle.capacity.specs.Places.{Stands}
 use Rattle.capacity.specs.Slack.{rises, Ordered}
 use Rattle.capacity.proofs.Naturals.{rises_first, rises_rest}
-use Rattle.capacity.proofs.Keeps.{rises_cons}
+use Rattle.capacity.proofs.Least.{rises_le}
 use Rattle.capacity.proofs.Noted.{rises_unserved}
-use Rattle.terms.specs.Answers.{value}
+use Rattle.terms.specs.Answers.{said}
+use Rattle.terms.specs.declared.refusal.Refusal.{Refusal}
 use Rattle.deferred_book.specs.Noting.{raised}
 use Rattle.deferred_book.proofs.Unserved.{unserved_none, unserved_raised, one_less}
 
@@ -58,14 +60,16 @@ noted_for_nobody m slots ns r =
     let bs = caught_up_boundaries m slots ns r in
     rw (same, bs) refl
 
--- a slot that does not end the first interval leaves the boundaries ahead
-pub rises_next :
-    (s t : ℕ) (bs : List Boundary) (h : ℕ) → rises t bs h ≡ true → t < h → (t + 1 ≡ first_end s bs → ⊥) →
-    rises (t + 1) bs h ≡ true
-rises_next s t [] h r before past = let e = eqb-true t h r in absurd (omega arith)
-rises_next s t (b ∷ bs) h r before past =
-    let first = rises_first t b bs h r in
-    rises_cons (t + 1) b bs h (omega (arith, past)) (rises_rest t b bs h r)
+-- a slot that is in order before the boundaries does not pass the end of the first interval
+pub rises_to_first :
+    (s t : ℕ) (bs : List Boundary) (h : ℕ) → rises s bs h ≡ true → rises t bs h ≡ true → t ≤ first_end s bs
+rises_to_first s t [] h ordered r = omega (arith, eqb-true s h ordered, eqb-true t h r)
+rises_to_first s t (b ∷ bs) h ordered r = let first = rises_first t b bs h r in omega arith
+
+-- the first interval ends by the horizon
+pub first_end_within : (s : ℕ) (bs : List Boundary) (h : ℕ) → rises s bs h ≡ true → first_end s bs ≤ h
+first_end_within s [] h r = omega (arith, eqb-true s h r)
+first_end_within s (b ∷ bs) h r = rises_le b.end bs h (rises_rest s b bs h r)
 
 -- slots up to the end of the first interval are caught up with
 pub caught_up_left :
@@ -73,11 +77,10 @@ pub caught_up_left :
     catch_up_leaves m slots ns ≡ caught_up m slots ns
 caught_up_left m slots ns le = rw (le-leb (m.clock + slots) (first_end m.clock m.boundaries) le) refl
 
--- what a run says and leaves once its slot has passed
-pub run_passed :
-    (m left : Meaning) (owner given : Option ℕ) → given ≡ owner → unowned m owner ≡ false → m.clock < m.horizon →
-    left ≡ passed m owner →
-    (value tt ≡ run_says m given) × (left ≡ run_leaves m given)
-run_passed m left owner given same owned before is =
-    let ahead = ne_eqb m.clock m.horizon (omega arith) in
-    rw (same, owned, ahead) (refl, is)
+pub catches_up :
+    (m : Meaning) (slots : ℕ) (r : Result (Unit {0}) Refusal) → m.clock + slots ≤ first_end m.clock m.boundaries →
+    said r ≡ catch_up_says m slots →
+    IsOk r
+catches_up m slots (Ok x) le says = refl
+catches_up m slots (Err e) le says =
+    let wrong = rw (le-leb (m.clock + slots) (first_end m.clock m.boundaries) le) at says in cc

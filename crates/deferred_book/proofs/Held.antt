@@ -1,26 +1,29 @@
 -- What is known of every deferred book.
-use Rattle.std.proofs.Common.{◌≡◌, ℕ, ◌+◌, ◌-◌, ◌<◌, ◌≤◌, true, false, leb, List, length, get_or, Some, None, sym, ap, ◌∙◌, subst, arith}
-use Rattle.std.proofs.lemmas.Bool.{and_from, and_left, and_right, le-leb, lt-leb}
+use Rattle.std.proofs.Common.{◌≡◌, ℕ, ◌+◌, ◌-◌, ◌<◌, ◌≤◌, Bool, true, false, leb, List, length, get_or, Some, None, Option, Ok, Err, Result, refl, sym, ap, ◌∙◌, subst, arith}
+use Rattle.std.proofs.lemmas.Bool.{and_from, and_left, and_right, ne_eqb}
+use Rattle.std.specs.Bool.{then_some}
+use Rattle.std.specs.Option.{MatchOption, IsSomeAnd, ok_or, option_transpose}
+use Rattle.std.specs.Result.{result_ok}
 use Rattle.capacity.specs.declared.boundary.Boundary.{Boundary}
-use Rattle.capacity.specs.Calls.{is_boundary, due_at, is_due, passed}
+use Rattle.capacity.specs.Calls.{is_boundary, due_at, is_due, run_says, run_leaves}
 use Rattle.capacity.specs.Intervals.{boundary_at}
 use Rattle.capacity.specs.Meaning.{Meaning}
 use Rattle.capacity.specs.Noted.{unserved, caught_up, first_end}
-use Rattle.capacity.specs.Places.{Stands}
+use Rattle.capacity.specs.Places.{Stands, Found, Owing}
 use Rattle.capacity.specs.Slack.{rises, Ordered}
-use Rattle.capacity.proofs.Keeps.{boundary_later}
 use Rattle.capacity.proofs.Least.{rises_le}
 use Rattle.capacity.proofs.Noted.{length_unserved, end_unserved, due_unserved, rises_unserved}
 use Rattle.capacity.proofs.Places.{stands, ends_rise}
-use Rattle.capacity.proofs.Slots.{boundary_within}
 use Rattle.slot_book.specs.Slot.{slot_meaning}
+use Rattle.terms.specs.Answers.{value}
 use Rattle.terms.specs.Limits.{longest_horizon, most_boundaries}
+use Rattle.terms.specs.declared.refusal.Refusal.{Refusal}
+use Rattle.terms.specs.declared.refusal.Refusal.TheVariants.{NotHeld}
 use Rattle.deferred_book.specs.declared.deferred.DeferredBook.{DeferredBook}
-use Rattle.deferred_book.specs.declared.notes.Notes.{Notes}
-use Rattle.deferred_book.specs.Deferred.{served_by, Within, deferred_meaning}
-use Rattle.deferred_book.specs.Noting.{one_more}
-use Rattle.deferred_book.proofs.Catching.{caught_up_boundaries, noted_for, noted_for_nobody, rises_next}
-use Rattle.deferred_book.proofs.Facts.{book_ranged, book_few}
+use Rattle.deferred_book.specs.Deferred.{served_by, deferred_meaning}
+use Rattle.deferred_book.specs.Noting.{one_more, Below}
+use Rattle.deferred_book.proofs.Catching.{caught_up_boundaries, noted_for, noted_for_nobody, rises_to_first, first_end_within}
+use Rattle.deferred_book.proofs.Facts.{book_ordered, book_ranged, book_few}
 use Rattle.deferred_book.proofs.Served.{served_length}
 use Rattle.deferred_book.proofs.Unserved.{unserved_boundary}
 
@@ -34,23 +37,13 @@ clock_within b =
       book_ranged b.settled,
     )
 
--- before the horizon a slot more can be noted
-pub slot_more :
-    (b : DeferredBook) → (deferred_meaning b).clock < (deferred_meaning b).horizon → (deferred_meaning b).clock < longest_horizon
-slot_more b before = omega (arith, before, book_ranged b.settled)
-
-pub next_within :
-    (b : DeferredBook) (notes : Notes) → notes.slots ≡ b.notes.slots + 1 →
-    (deferred_meaning b).clock < (deferred_meaning b).horizon →
-    ((slot_meaning b.settled).clock + notes.slots
-    ≡ first_end (slot_meaning b.settled).clock (slot_meaning b.settled).boundaries → ⊥) →
-    Within (slot_meaning b.settled) notes
-next_within b notes slots before left =
+-- its noted slots do not pass the end of the first interval
+pub within_first :
+    (b : DeferredBook) →
+    (deferred_meaning b).clock ≤ first_end (slot_meaning b.settled).clock (slot_meaning b.settled).boundaries
+within_first b =
     let m = slot_meaning b.settled in
-    let same : m.clock + b.notes.slots + 1 ≡ m.clock + notes.slots = omega (arith, slots) in
-    let P : ℕ → Type 0 = λ t. rises t m.boundaries m.horizon ≡ true in
-    subst P same
-    (rises_next m.clock (m.clock + b.notes.slots) m.boundaries m.horizon b.within before (λ e. left (sym same ∙ e)))
+    rises_to_first m.clock (m.clock + b.notes.slots) m.boundaries m.horizon (book_ordered b.settled) b.within
 
 -- its boundaries are those of the settled book, with less due
 pub boundaries_are :
@@ -68,14 +61,6 @@ deferred_ordered b =
     let t = m.clock + b.notes.slots in
     let P : List Boundary → Type 0 = λ bs. rises t bs m.horizon ≡ true in
     subst P (sym (boundaries_are b)) (rises_unserved t m.boundaries m.horizon (served_by b.notes) b.within)
-
--- its clock does not pass the horizon
-pub not_at_horizon :
-    (b : DeferredBook) → ((deferred_meaning b).clock ≡ (deferred_meaning b).horizon → ⊥) →
-    (deferred_meaning b).clock < (deferred_meaning b).horizon
-not_at_horizon b ahead =
-    let D = deferred_meaning b in
-    omega (arith, ahead, rises_le D.clock D.boundaries D.horizon (deferred_ordered b))
 
 -- what is due at a place
 pub due_is :
@@ -110,56 +95,83 @@ lacks_still b d new =
     and_left (is_boundary bs d) (leb 1 (due_at bs d))
     (ap (λ xs. is_boundary xs d) (boundaries_are b) ∙ unserved_boundary (slot_meaning b.settled).boundaries (served_by b.notes) d ∙ new)
 
--- whether something is due where a deadline stands
-pub due_there :
-    (b : DeferredBook) (d k due : ℕ) → Stands (deferred_meaning b).boundaries d k →
-    due ≡ (boundary_at (deferred_meaning b).boundaries k).due →
-    1 ≤ due →
-    is_due (deferred_meaning b) d 1 ≡ true
-due_there b d k due at is some =
-    let bs = (deferred_meaning b).boundaries in
-    and_from (is_boundary bs d) (leb 1 (due_at bs d)) at.held (le-leb 1 (due_at bs d) (omega (arith, at.owes)))
+-- a search that keeps the place where something is due finds the place of an owner
+pub owing_kept :
+    (b : DeferredBook) (d : ℕ) (placed : Result ℕ ℕ) (kept : Option ℕ) (Keeps : ℕ → Bool → Type 0) →
+    Found (slot_meaning b.settled).boundaries d placed →
+    ((k : ℕ) (t : Bool) → Keeps k t → t ≡ leb 1 (boundary_at (deferred_meaning b).boundaries k).due) →
+    MatchOption (result_ok placed) (kept ≡ None) (λ k. (t : Bool) × Keeps k t × (kept ≡ then_some t k)) →
+    Owing (deferred_meaning b) d 1 (ok_or kept NotHeld)
+owing_kept b d (Err k) kept Keeps new tells none = rw none (refl, lacks_still b d new.new)
+owing_kept b d (Ok k) kept Keeps found tells (true, keeps, is) =
+    let at = stands_still b d k found in
+    rw is (at, and_from (is_boundary (deferred_meaning b).boundaries d) _ at.held (rw (← at.owes) (sym (tells k true keeps))))
+owing_kept b d (Ok k) kept Keeps found tells (false, keeps, is) =
+    let at = stands_still b d k found in
+    rw is (refl, and_right (is_boundary (deferred_meaning b).boundaries d) _ (rw (← at.owes) (sym (tells k false keeps))))
 
-pub none_there :
-    (b : DeferredBook) (d k due : ℕ) → Stands (deferred_meaning b).boundaries d k →
-    due ≡ (boundary_at (deferred_meaning b).boundaries k).due →
-    due < 1 →
-    is_due (deferred_meaning b) d 1 ≡ false
-none_there b d k due at is none =
-    let bs = (deferred_meaning b).boundaries in
-    and_right (is_boundary bs d) (leb 1 (due_at bs d)) (lt-leb 1 (due_at bs d) (omega (arith, at.owes)))
-
--- a boundary lies between the clock and the horizon
+-- the slot at the clock lies before the horizon where the first interval does not end with it
 pub before_horizon :
-    (b : DeferredBook) (d k : ℕ) → Stands (deferred_meaning b).boundaries d k →
-    (deferred_meaning b).clock < (deferred_meaning b).horizon
-before_horizon b d k at =
-    let D = deferred_meaning b in
-    let after = boundary_later D.clock D.boundaries D.horizon d (deferred_ordered b) at.held in
-    let within = boundary_within D.clock D.boundaries D.horizon d (deferred_ordered b) at.held in
-    omega arith
+    (b : DeferredBook) →
+    (deferred_meaning b).clock + 1 < first_end (slot_meaning b.settled).clock (slot_meaning b.settled).boundaries →
+    (deferred_meaning b).clock + 1 < (deferred_meaning b).horizon
+before_horizon b before =
+    let m = slot_meaning b.settled in
+    omega (arith, first_end_within m.clock m.boundaries m.horizon (book_ordered b.settled))
 
 pub place_below :
     (b : DeferredBook) (d k : ℕ) → Stands (deferred_meaning b).boundaries d k → k < most_boundaries
 place_below b d k at = omega (arith, at.within, count_is b, book_few b.settled)
 
--- a slot noted for a deadline is that slot passed
-pub passed_for_deadline :
-    (b : DeferredBook) (left : Meaning) (d k : ℕ) → Stands (deferred_meaning b).boundaries d k →
-    left ≡ caught_up (slot_meaning b.settled) (b.notes.slots + 1) (one_more (served_by b.notes) (Some k)) →
-    left ≡ passed (deferred_meaning b) (Some d)
-passed_for_deadline b left d k at is =
+-- whom a slot is for, by deadline and by place: for nobody, or for a boundary with something due
+abbrev pub OwnedBy : Meaning → Option ℕ → Option ℕ → Type 0
+OwnedBy m None None = Unit {0}
+OwnedBy m None (Some k) = ⊥
+OwnedBy m (Some d) None = ⊥
+OwnedBy m (Some d) (Some k) = Owing m d 1 (Ok k)
+
+pub owner_found :
+    (m : Meaning) (owner : Option ℕ) (found : Option (Result ℕ Refusal)) (place : Option ℕ)
+    (Finds : ℕ → Result ℕ Refusal → Type 0) → ((d : ℕ) (r : Result ℕ Refusal) → Finds d r → Owing m d 1 r) →
+    MatchOption owner (found ≡ None) (λ d. IsSomeAnd found (Finds d)) →
+    option_transpose found ≡ Ok place →
+    OwnedBy m owner place
+owner_found m None found None Finds tells none is = tt
+owner_found m None found (Some k) Finds tells none is = let wrong = rw none at is in cc
+owner_found m (Some d) None place Finds tells some is = absurd some
+owner_found m (Some d) (Some (Err e)) place Finds tells some is = cc
+owner_found m (Some d) (Some (Ok k)) None Finds tells some is = cc
+owner_found m (Some d) (Some (Ok k)) (Some j) Finds tells some is =
+    let same : k ≡ j = cc in rw (← same) (tells d (Ok k) some)
+
+-- the place of an owner is the place of a boundary
+pub owner_below :
+    (b : DeferredBook) (owner place : Option ℕ) → OwnedBy (deferred_meaning b) owner place → Below place most_boundaries
+owner_below b None None owned = tt
+owner_below b None (Some k) owned = absurd owned
+owner_below b (Some d) None owned = absurd owned
+owner_below b (Some d) (Some k) owned = place_below b d k owned.0
+
+-- a slot noted for its owner is that slot passed
+pub noted_run :
+    (b : DeferredBook) (left : Meaning) (owner place : Option ℕ) → OwnedBy (deferred_meaning b) owner place →
+    (deferred_meaning b).clock < (deferred_meaning b).horizon →
+    left ≡ caught_up (slot_meaning b.settled) (b.notes.slots + 1) (one_more (served_by b.notes) place) →
+    (value tt ≡ run_says (deferred_meaning b) owner) × (left ≡ run_leaves (deferred_meaning b) owner)
+noted_run b left None None owned before is =
+    let ahead = ne_eqb (deferred_meaning b).clock (deferred_meaning b).horizon (omega arith) in
+    rw ahead (refl, is ∙ noted_for_nobody (slot_meaning b.settled) b.notes.slots (served_by b.notes) b.within)
+noted_run b left None (Some k) owned before is = absurd owned
+noted_run b left (Some d) None owned before is = absurd owned
+noted_run b left (Some d) (Some k) owned before is =
+    let ahead = ne_eqb (deferred_meaning b).clock (deferred_meaning b).horizon (omega arith) in
     let P : List Boundary → Type 0 = λ bs. Stands bs d k in
     let noted : k < length (served_by b.notes) =
-    omega (arith, place_below b d k at, served_length b.notes.slots b.notes.noted, b.notes.each)
+    omega (arith, place_below b d k owned.0, served_length b.notes.slots b.notes.noted, b.notes.each)
     in
-    is
-    ∙ noted_for (slot_meaning b.settled) b.notes.slots (served_by b.notes) d k b.within
-    (subst P (boundaries_are b) at) noted
-
-pub passed_for_nobody :
-    (b : DeferredBook) (left : Meaning) →
-    left ≡ caught_up (slot_meaning b.settled) (b.notes.slots + 1) (one_more (served_by b.notes) None) →
-    left ≡ passed (deferred_meaning b) None
-passed_for_nobody b left is =
-    is ∙ noted_for_nobody (slot_meaning b.settled) b.notes.slots (served_by b.notes) b.within
+    rw (owned.1, ahead) (
+      refl,
+      is
+          ∙ noted_for (slot_meaning b.settled) b.notes.slots (served_by b.notes) d k b.within
+          (subst P (boundaries_are b) owned.0) noted,
+    )

@@ -11,6 +11,6 @@ use slot_book::SlotBook;
 pub struct DeferredBook {
     pub(crate) settled: SlotBook,
     pub(crate) notes: Notes,
-    // The noted slots end before the first interval does: with its last slot the book is settled.
+    // The noted slots end before the first interval does: its last slot is never noted.
     ghost within: { rises ((slot_meaning settled).clock + notes.slots) (slot_meaning settled).boundaries (slot_meaning settled).horizon ≡ true },
 }

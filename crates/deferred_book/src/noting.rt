@@ -23,13 +23,12 @@ impl Notes {
 
     // How many of the noted slots were for the boundary at a place.
     pub(crate) fn served(&self, place: usize) -> u32
-        requires { place < most_boundaries }
         ensures { result ≡ slice_index (served_by self.now) place }
     {
         if place == FIRST {
             self.slots - self.noted[FIRST]
         } else {
-            self.noted[place]
+            self.noted.get(place).copied().unwrap_or(0)
         }
     }
 

@@ -1,27 +1,9 @@
-use Rattle.std.proofs.Common.{refl}
-use Rattle.deferred_book.proofs.Held.{stands_still, lacks_still, due_there, none_there, place_below}
+use Rattle.std.proofs.Common.{rules, tests}
+use Rattle.deferred_book.proofs.Held.{owing_kept}
 use Rattle.deferred_book.proofs.deferred.DeferredBook.owner.Goals as goal
-
-pub due-requires : goal.due-requires
-due-requires c =
-    let at = stands_still c.args.self.now c.args.deadline c.in-Ok.place c.in-Ok.ensures in
-    place_below c.args.self.now c.args.deadline c.in-Ok.place at
-
-pub returns-in_default : goal.returns-in_default
-returns-in_default c = (refl, lacks_still c.args.self.now c.args.deadline c.in_default.ensures.new)
-
-pub returns-then-due-lt1 : goal.returns-then-due-lt1
-returns-then-due-lt1 c =
-    let at = stands_still c.args.self.now c.args.deadline c.in-Ok.place c.in-Ok.ensures in (
-      refl,
-      none_there c.args.self.now c.args.deadline c.in-Ok.place c.due.result at c.due.ensures
-          c.if-due-lt1.true,
-    )
 
 pub returns : goal.returns
 returns c =
-    let at = stands_still c.args.self.now c.args.deadline c.in-Ok.place c.in-Ok.ensures in (
-      at,
-      due_there c.args.self.now c.args.deadline c.in-Ok.place c.due.result at c.due.ensures
-          c.if-due-lt1.false,
-    )
+    rw c.ok_or.ensures.value
+    (owing_kept c.args.self.now c.args.deadline c.place.result c.filter.result _ c.place.ensures
+    (λ k t q. search (rules, tests)) (rw c.ok.ensures.value at c.filter.ensures))

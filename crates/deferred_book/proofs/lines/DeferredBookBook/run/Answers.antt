@@ -1,48 +1,41 @@
-use Rattle.std.proofs.Common.{Some, None, refl, arith}
-use Rattle.std.proofs.lemmas.Bool.{not_from_true}
-use Rattle.capacity.specs.Calls.{is_due}
+use Rattle.std.proofs.Common.{◌≤◌, refl, arith, rules}
+use Rattle.slot_book.specs.Slot.{slot_meaning}
+use Rattle.terms.specs.Limits.{longest_horizon}
 use Rattle.deferred_book.specs.Deferred.{deferred_meaning}
-use Rattle.deferred_book.proofs.Catching.{run_passed}
-use Rattle.deferred_book.proofs.Held.{not_at_horizon, before_horizon, place_below, passed_for_deadline, passed_for_nobody}
+use Rattle.deferred_book.proofs.Facts.{book_ranged}
+use Rattle.deferred_book.proofs.Held.{clock_within, before_horizon, owner_found, owner_below, noted_run}
+use Rattle.deferred_book.proofs.Keeping.{unnoted_meaning, noted_meaning}
 use Rattle.deferred_book.proofs.lines.DeferredBookBook.run.Goals as goal
 
-pub pass-requires : goal.pass-requires
-pass-requires c =
-    record {
-      before =
-          not_at_horizon c.args.self.now
-          (λ e. c.if-clock-horizon.false (omega (arith, e, c.clock.ensures, c.horizon.ensures)));
-      place = tt;
-    }
+pub overflow_add-clock : goal.overflow_add-clock
+overflow_add-clock c =
+    let small : c.clock.result ≤ longest_horizon = omega (arith, clock_within c.args.self.now) in
+    search rules
 
-pub pass-requires-in-Some : goal.pass-requires-in-Some
-pass-requires-in-Some c =
-    let book = c.args.self.now in
-    let at = c.in_ok-place-in-Some.ensures.0 in
-    record {
-      before = before_horizon book c.in-Some.deadline c.in_ok-place-in-Some.place at;
-      place = place_below book c.in-Some.deadline c.in_ok-place-in-Some.place at;
-    }
+pub returns-then-clock-first_end-clause-book : goal.returns-then-clock-first_end-clause-book
+returns-then-clock-first_end-clause-book c = grind (arith, unnoted_meaning)
 
-pub returns-else-clock-horizon : goal.returns-else-clock-horizon
-returns-else-clock-horizon c =
+pub note-requires-clause-few : goal.note-requires-clause-few
+note-requires-clause-few c =
+    omega (arith, before_horizon c.args.self.now (omega (arith, c.first_end.ensures)), book_ranged c.args.self.now.settled)
+
+pub note-requires-clause-place : goal.note-requires-clause-place
+note-requires-clause-place c =
+    owner_below c.args.self.now c.args.owner c.in_ok-place.place
+    (owner_found (deferred_meaning c.args.self.now) c.args.owner c.map.result c.in_ok-place.place _ (λ d r q. search rules)
+    c.map.ensures.cases (search rules))
+
+pub returns : goal.returns
+returns c =
     let book = c.args.self.now in
-    let done =
-    run_passed (deferred_meaning book) (deferred_meaning c.pass.new.self) None c.args.owner c.in-None.is refl
-    (not_at_horizon book (λ e. c.if-clock-horizon.false (omega (arith, e, c.clock.ensures, c.horizon.ensures))))
-    (passed_for_nobody book _ c.pass.ensures)
+    let owned =
+    owner_found (deferred_meaning book) c.args.owner c.map.result c.in_ok-place.place _ (λ d r q. search rules)
+    c.map.ensures.cases (search rules)
     in
-    record { answer = done.0; book = done.1 }
-
-pub returns-in_ok-place-in-Some : goal.returns-in_ok-place-in-Some
-returns-in_ok-place-in-Some c =
-    let book = c.args.self.now in
-    let d = c.in-Some.deadline in
-    let place = c.in_ok-place-in-Some.place in
-    let owned = c.in_ok-place-in-Some.ensures in
     let done =
-    run_passed (deferred_meaning book) (deferred_meaning c.pass-in-Some.new.self) (Some d) c.args.owner c.in-Some.is
-    (not_from_true (is_due (deferred_meaning book) d 1) owned.1) (before_horizon book d place owned.0)
-    (passed_for_deadline book _ d place owned.0 c.pass-in-Some.ensures)
+    noted_run book _ c.args.owner c.in_ok-place.place owned
+    (omega (arith, before_horizon book (omega (arith, c.first_end.ensures))))
+    (noted_meaning (slot_meaning book.settled) _ book.notes c.note.new.self c.in_ok-place.place
+    c.note.ensures.slots c.note.ensures.noted refl)
     in
     record { answer = done.0; book = done.1 }
