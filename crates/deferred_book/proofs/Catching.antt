@@ -5,7 +5,7 @@ use Rattle.std.proofs.lemmas.Bool.{lt-ltb, le-leb, eqb-true}
 use Rattle.capacity.specs.declared.boundary.Boundary.{Boundary}
 use Rattle.capacity.specs.Calls.{later_than, passed, with_due, due_at}
 use Rattle.capacity.specs.Meaning.{Meaning}
-use Rattle.capacity.specs.Noted.{unserved, caught_up, first_end, catch_up_says, catch_up_leaves}
+use Rattle.capacity.specs.Noted.{unserved, caught_up, first_end, catch_up_says}
 use Rattle.capacity.specs.Places.{Stands}
 use Rattle.capacity.specs.Slack.{rises, Ordered}
 use Rattle.capacity.proofs.Naturals.{rises_first, rises_rest}
@@ -70,12 +70,6 @@ rises_to_first s t (b ∷ bs) h ordered r = let first = rises_first t b bs h r i
 pub first_end_within : (s : ℕ) (bs : List Boundary) (h : ℕ) → rises s bs h ≡ true → first_end s bs ≤ h
 first_end_within s [] h r = omega (arith, eqb-true s h r)
 first_end_within s (b ∷ bs) h r = rises_le b.end bs h (rises_rest s b bs h r)
-
--- slots up to the end of the first interval are caught up with
-pub caught_up_left :
-    (m : Meaning) (slots : ℕ) (ns : List ℕ) → m.clock + slots ≤ first_end m.clock m.boundaries →
-    catch_up_leaves m slots ns ≡ caught_up m slots ns
-caught_up_left m slots ns le = rw (le-leb (m.clock + slots) (first_end m.clock m.boundaries) le) refl
 
 pub catches_up :
     (m : Meaning) (slots : ℕ) (r : Result (Unit {0}) Refusal) → m.clock + slots ≤ first_end m.clock m.boundaries →

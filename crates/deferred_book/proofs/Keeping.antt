@@ -1,14 +1,13 @@
--- Settling keeps the meaning, and noting a slot gives it to its owner.
-use Rattle.std.proofs.Common.{◌≡◌, ℕ, ◌+◌, true, replicate, Option, ap, ◌∙◌, subst, arith}
+-- A book with nothing noted means what its settled book means, and noting a slot gives it to its owner.
+use Rattle.std.proofs.Common.{◌≡◌, ℕ, ◌+◌, replicate, Option, ap, ◌∙◌}
 use Rattle.capacity.specs.Meaning.{Meaning}
 use Rattle.capacity.specs.Noted.{caught_up}
-use Rattle.capacity.specs.Slack.{rises}
 use Rattle.slot_book.specs.declared.slot.SlotBook.{SlotBook}
 use Rattle.slot_book.specs.Slot.{slot_meaning}
 use Rattle.terms.specs.Limits.{most_boundaries}
 use Rattle.deferred_book.specs.declared.notes.Notes.{Notes}
-use Rattle.deferred_book.specs.Deferred.{served_by, after_notes, Within}
 use Rattle.deferred_book.specs.Noting.{served_of, noting, one_more, Unnoted}
+use Rattle.deferred_book.specs.Deferred.{served_by, after_notes}
 use Rattle.deferred_book.proofs.Catching.{caught_up_none}
 use Rattle.deferred_book.proofs.Facts.{book_ordered}
 use Rattle.deferred_book.proofs.Served.{served_none, served_more}
@@ -25,21 +24,6 @@ unnoted_meaning settled notes none =
     let m = slot_meaning settled in
     ap (λ s. caught_up m s (served_by notes)) none.slots ∙ ap (caught_up m 0) (nobody_served notes none)
     ∙ caught_up_none m most_boundaries (book_ordered settled)
-
--- Settling keeps the meaning: a book that has caught up with its notes, and has none any more, means what it meant with them.
-pub settling_keeps_the_meaning :
-    (before settled : SlotBook) (notes none : Notes) → slot_meaning settled ≡ after_notes (slot_meaning before) notes →
-    Unnoted none →
-    after_notes (slot_meaning settled) none ≡ after_notes (slot_meaning before) notes
-settling_keeps_the_meaning before settled notes none caught empty = unnoted_meaning settled none empty ∙ caught
-
--- where no slot is noted, the first interval has not ended
-pub unnoted_within : (settled : SlotBook) (notes : Notes) → Unnoted notes → Within (slot_meaning settled) notes
-unnoted_within settled notes none =
-    let m = slot_meaning settled in
-    let same : m.clock ≡ m.clock + notes.slots = omega (arith, none.slots) in
-    let P : ℕ → Type 0 = λ t. rises t m.boundaries m.horizon ≡ true in
-    subst P same (book_ordered settled)
 
 -- with one slot more noted, its owner has got one more
 pub noted_meaning :

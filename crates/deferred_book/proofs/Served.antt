@@ -1,15 +1,10 @@
 -- What the notes say that each boundary got.
-use Rattle.std.proofs.Common.{◌≡◌, ℕ, zero, suc, ◌+◌, ◌-◌, ◌≤◌, List, [], ◌∷◌, length, get_or, set, replicate, Some, None, Option, refl, ap, arith}
+use Rattle.std.proofs.Common.{◌≡◌, ℕ, zero, suc, ◌+◌, ◌-◌, ◌≤◌, List, [], ◌∷◌, length, get_or, replicate, Some, None, Option, refl, ap, arith}
 use Rattle.deferred_book.specs.Noting.{served_of, raised, noting, one_more}
 
 pub served_length : (slots : ℕ) (ns : List ℕ) → length (served_of slots ns) ≡ length ns
 served_length slots [] = refl
 served_length slots (n ∷ ns) = refl
-
--- the first note turned into what the first boundary got
-pub served_written : (slots : ℕ) (ns : List ℕ) → set ns 0 (slots - get_or ns 0 0) ≡ served_of slots ns
-served_written slots [] = refl
-served_written slots (n ∷ ns) = refl
 
 -- where nothing is noted nobody got a slot
 pub served_none : (n : ℕ) → served_of 0 (replicate n 0) ≡ replicate n 0

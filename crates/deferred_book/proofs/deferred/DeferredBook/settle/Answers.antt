@@ -1,6 +1,5 @@
-use Rattle.std.proofs.Common.{◌≡◌, ◌∙◌, rules}
+use Rattle.std.proofs.Common.{arith}
 use Rattle.slot_book.specs.Slot.{slot_meaning}
-use Rattle.deferred_book.specs.Deferred.{deferred_meaning}
 use Rattle.deferred_book.proofs.Catching.{catches_up}
 use Rattle.deferred_book.proofs.Held.{within_first}
 use Rattle.deferred_book.proofs.Keeping.{unnoted_meaning}
@@ -12,6 +11,4 @@ unwrap-requires c =
     (rw c.replace-slots.ensures.value (within_first c.args.self.now)) c.catch_up.ensures.answer
 
 pub returns-clause-same : goal.returns-clause-same
-returns-clause-same c =
-    let caught : slot_meaning c.catch_up.new.self ≡ deferred_meaning c.args.self.now = search rules in
-    unnoted_meaning c.catch_up.new.self c.replace-slots.new.dest (rw c.replace-slots.ensures.after c.none.ensures) ∙ caught
+returns-clause-same c = grind (arith, unnoted_meaning)

@@ -1,6 +1,5 @@
-use Rattle.std.proofs.Common.{◌≤◌, refl, arith, rules}
+use Rattle.std.proofs.Common.{refl, arith, rules}
 use Rattle.slot_book.specs.Slot.{slot_meaning}
-use Rattle.terms.specs.Limits.{longest_horizon}
 use Rattle.deferred_book.specs.Deferred.{deferred_meaning}
 use Rattle.deferred_book.proofs.Facts.{book_ranged}
 use Rattle.deferred_book.proofs.Held.{clock_within, before_horizon, owner_found, owner_below, noted_run}
@@ -8,9 +7,7 @@ use Rattle.deferred_book.proofs.Keeping.{unnoted_meaning, noted_meaning}
 use Rattle.deferred_book.proofs.lines.DeferredBookBook.run.Goals as goal
 
 pub overflow_add-clock : goal.overflow_add-clock
-overflow_add-clock c =
-    let small : c.clock.result ≤ longest_horizon = omega (arith, clock_within c.args.self.now) in
-    search rules
+overflow_add-clock c = omega (arith, clock_within c.args.self.now)
 
 pub returns-then-clock-first_end-clause-book : goal.returns-then-clock-first_end-clause-book
 returns-then-clock-first_end-clause-book c = grind (arith, unnoted_meaning)
