@@ -1,14 +1,14 @@
 -- What is known of every deferred book.
-use Rattle.std.proofs.Common.{◌≡◌, ℕ, ◌+◌, ◌-◌, ◌<◌, ◌≤◌, Bool, true, false, leb, List, length, get_or, Some, None, Option, Ok, Err, Result, refl, sym, ap, ◌∙◌, subst, arith}
+use Rattle.std.proofs.Common.{◌≡◌, ℕ, ◌+◌, ◌-◌, ◌<◌, ◌≤◌, Bool, true, false, leb, List, length, get_or, Some, None, Option, Ok, Err, Result, refl, sym, ap, ◌∙◌, subst, arith, rules}
 use Rattle.std.proofs.lemmas.Bool.{and_from, and_left, and_right, ne_eqb}
 use Rattle.std.specs.Bool.{then_some}
-use Rattle.std.specs.Option.{MatchOption, IsSomeAnd, ok_or, option_transpose}
+use Rattle.std.specs.Option.{MatchOption, ForSome, IsSomeAnd, ok_or, option_transpose}
 use Rattle.std.specs.Result.{result_ok}
 use Rattle.capacity.specs.declared.boundary.Boundary.{Boundary}
 use Rattle.capacity.specs.Calls.{is_boundary, due_at, is_due, run_says, run_leaves}
 use Rattle.capacity.specs.Intervals.{boundary_at}
 use Rattle.capacity.specs.Meaning.{Meaning}
-use Rattle.capacity.specs.Noted.{unserved, caught_up, first_end}
+use Rattle.capacity.specs.Noted.{unserved, first_end}
 use Rattle.capacity.specs.Places.{Stands, Found, Owing}
 use Rattle.capacity.specs.Slack.{rises, Ordered}
 use Rattle.capacity.proofs.Least.{rises_le}
@@ -20,8 +20,10 @@ use Rattle.terms.specs.Limits.{longest_horizon, most_boundaries}
 use Rattle.terms.specs.declared.refusal.Refusal.{Refusal}
 use Rattle.terms.specs.declared.refusal.Refusal.TheVariants.{NotHeld}
 use Rattle.deferred_book.specs.declared.deferred.DeferredBook.{DeferredBook}
-use Rattle.deferred_book.specs.Deferred.{served_by, deferred_meaning}
-use Rattle.deferred_book.specs.Noting.{one_more, Below}
+use Rattle.deferred_book.specs.Deferred.{served_by, after_notes, deferred_meaning}
+use Rattle.deferred_book.specs.declared.notes.Notes.{Notes}
+use Rattle.deferred_book.specs.Noting.{noting}
+use Rattle.deferred_book.proofs.Keeping.{noted_meaning}
 use Rattle.deferred_book.proofs.Catching.{caught_up_boundaries, noted_for, noted_for_nobody, rises_to_first, first_end_within}
 use Rattle.deferred_book.proofs.Facts.{book_ordered, book_ranged, book_few}
 use Rattle.deferred_book.proofs.Served.{served_length}
@@ -110,14 +112,20 @@ owing_kept b d (Ok k) kept Keeps found tells (false, keeps, is) =
     let at = stands_still b d k found in
     rw is (refl, and_right (is_boundary (deferred_meaning b).boundaries d) _ (rw (← at.owes) (sym (tells k false keeps))))
 
--- the slot at the clock lies before the horizon where the first interval does not end with it
+-- where the slot at the clock does not end the first interval, it lies before the horizon, and can be noted
 pub before_horizon :
     (b : DeferredBook) →
     (deferred_meaning b).clock + 1 < first_end (slot_meaning b.settled).clock (slot_meaning b.settled).boundaries →
-    (deferred_meaning b).clock + 1 < (deferred_meaning b).horizon
+    (deferred_meaning b).clock < (deferred_meaning b).horizon
 before_horizon b before =
     let m = slot_meaning b.settled in
     omega (arith, first_end_within m.clock m.boundaries m.horizon (book_ordered b.settled))
+
+pub few_noted :
+    (b : DeferredBook) →
+    (deferred_meaning b).clock + 1 < first_end (slot_meaning b.settled).clock (slot_meaning b.settled).boundaries →
+    b.notes.slots < longest_horizon
+few_noted b before = omega (arith, before_horizon b before, book_ranged b.settled)
 
 pub place_below :
     (b : DeferredBook) (d k : ℕ) → Stands (deferred_meaning b).boundaries d k → k < most_boundaries
@@ -146,32 +154,38 @@ owner_found m (Some d) (Some (Ok k)) (Some j) Finds tells some is =
 
 -- the place of an owner is the place of a boundary
 pub owner_below :
-    (b : DeferredBook) (owner place : Option ℕ) → OwnedBy (deferred_meaning b) owner place → Below place most_boundaries
-owner_below b None None owned = tt
+    (b : DeferredBook) (owner place : Option ℕ) → OwnedBy (deferred_meaning b) owner place →
+    ForSome place (λ k. k < most_boundaries)
+owner_below b None None owned = search rules
 owner_below b None (Some k) owned = absurd owned
 owner_below b (Some d) None owned = absurd owned
-owner_below b (Some d) (Some k) owned = place_below b d k owned.0
+owner_below b (Some d) (Some k) owned = let below = place_below b d k owned.0 in search rules
 
 -- a slot noted for its owner is that slot passed
 pub noted_run :
-    (b : DeferredBook) (left : Meaning) (owner place : Option ℕ) → OwnedBy (deferred_meaning b) owner place →
-    (deferred_meaning b).clock < (deferred_meaning b).horizon →
-    left ≡ caught_up (slot_meaning b.settled) (b.notes.slots + 1) (one_more (served_by b.notes) place) →
-    (value tt ≡ run_says (deferred_meaning b) owner) × (left ≡ run_leaves (deferred_meaning b) owner)
-noted_run b left None None owned before is =
-    let ahead = ne_eqb (deferred_meaning b).clock (deferred_meaning b).horizon (omega arith) in
-    rw ahead (refl, is ∙ noted_for_nobody (slot_meaning b.settled) b.notes.slots (served_by b.notes) b.within)
-noted_run b left None (Some k) owned before is = absurd owned
-noted_run b left (Some d) None owned before is = absurd owned
-noted_run b left (Some d) (Some k) owned before is =
-    let ahead = ne_eqb (deferred_meaning b).clock (deferred_meaning b).horizon (omega arith) in
-    let P : List Boundary → Type 0 = λ bs. Stands bs d k in
-    let noted : k < length (served_by b.notes) =
+    (b : DeferredBook) (notes : Notes) (owner place : Option ℕ) →
+    (deferred_meaning b).clock + 1 < first_end (slot_meaning b.settled).clock (slot_meaning b.settled).boundaries →
+    OwnedBy (deferred_meaning b) owner place →
+    notes.slots ≡ b.notes.slots + 1 →
+    notes.noted ≡ noting b.notes.noted place →
+    (value tt ≡ run_says (deferred_meaning b) owner)
+    × (after_notes (slot_meaning b.settled) notes ≡ run_leaves (deferred_meaning b) owner)
+noted_run b notes None None before owned slots noted =
+    let m = slot_meaning b.settled in
+    let left = before_horizon b before in
+    rw
+    (ne_eqb (deferred_meaning b).clock (deferred_meaning b).horizon (omega arith))
+    (refl, noted_meaning m b.notes notes None slots noted ∙ noted_for_nobody m b.notes.slots (served_by b.notes) b.within)
+noted_run b notes None (Some k) before owned slots noted = absurd owned
+noted_run b notes (Some d) None before owned slots noted = absurd owned
+noted_run b notes (Some d) (Some k) before owned slots noted =
+    let m = slot_meaning b.settled in
+    let left = before_horizon b before in
+    let here : k < length (served_by b.notes) =
     omega (arith, place_below b d k owned.0, served_length b.notes.slots b.notes.noted, b.notes.each)
     in
-    rw (owned.1, ahead) (
+    rw (owned.1, ne_eqb (deferred_meaning b).clock (deferred_meaning b).horizon (omega arith)) (
       refl,
-      is
-          ∙ noted_for (slot_meaning b.settled) b.notes.slots (served_by b.notes) d k b.within
-          (subst P (boundaries_are b) owned.0) noted,
+      noted_meaning m b.notes notes (Some k) slots noted
+      ∙ noted_for m b.notes.slots (served_by b.notes) d k b.within (rw (boundaries_are b) at owned.0) here,
     )

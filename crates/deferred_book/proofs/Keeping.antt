@@ -6,11 +6,11 @@ use Rattle.slot_book.specs.declared.slot.SlotBook.{SlotBook}
 use Rattle.slot_book.specs.Slot.{slot_meaning}
 use Rattle.terms.specs.Limits.{most_boundaries}
 use Rattle.deferred_book.specs.declared.notes.Notes.{Notes}
-use Rattle.deferred_book.specs.Noting.{served_of, noting, one_more, Unnoted}
+use Rattle.deferred_book.specs.Noting.{served_of, noting, Unnoted}
 use Rattle.deferred_book.specs.Deferred.{served_by, after_notes}
 use Rattle.deferred_book.proofs.Catching.{caught_up_none}
 use Rattle.deferred_book.proofs.Facts.{book_ordered}
-use Rattle.deferred_book.proofs.Served.{served_none, served_more}
+use Rattle.deferred_book.proofs.Served.{served_none, served_more, one_more}
 
 -- where no slot is noted, nobody got one
 nobody_served : (notes : Notes) → Unnoted notes → served_by notes ≡ replicate most_boundaries 0
@@ -27,12 +27,10 @@ unnoted_meaning settled notes none =
 
 -- with one slot more noted, its owner has got one more
 pub noted_meaning :
-    (m left : Meaning) (before notes : Notes) (owner : Option ℕ) → notes.slots ≡ before.slots + 1 →
+    (m : Meaning) (before notes : Notes) (owner : Option ℕ) → notes.slots ≡ before.slots + 1 →
     notes.noted ≡ noting before.noted owner →
-    left ≡ after_notes m notes →
-    left ≡ caught_up m (before.slots + 1) (one_more (served_by before) owner)
-noted_meaning m left before notes owner slots noted is =
-    is
-    ∙ ap (λ s. caught_up m s (served_of s notes.noted)) slots
+    after_notes m notes ≡ caught_up m (before.slots + 1) (one_more (served_by before) owner)
+noted_meaning m before notes owner slots noted =
+    ap (λ s. caught_up m s (served_of s notes.noted)) slots
     ∙ ap (λ ns. caught_up m (before.slots + 1) (served_of (before.slots + 1) ns)) noted
     ∙ ap (caught_up m (before.slots + 1)) (served_more before.slots before.noted owner (before.counted 0))

@@ -1,6 +1,6 @@
 -- What the notes say that each boundary got.
 use Rattle.std.proofs.Common.{◌≡◌, ℕ, zero, suc, ◌+◌, ◌-◌, ◌≤◌, List, [], ◌∷◌, length, get_or, replicate, Some, None, Option, refl, ap, arith}
-use Rattle.deferred_book.specs.Noting.{served_of, raised, noting, one_more}
+use Rattle.deferred_book.specs.Noting.{served_of, raised, noting}
 
 pub served_length : (slots : ℕ) (ns : List ℕ) → length (served_of slots ns) ≡ length ns
 served_length slots [] = refl
@@ -10,6 +10,11 @@ served_length slots (n ∷ ns) = refl
 pub served_none : (n : ℕ) → served_of 0 (replicate n 0) ≡ replicate n 0
 served_none zero = refl
 served_none (suc n) = refl
+
+-- what each boundary got, with one slot more: its owner got one more, if it had an owner
+abbrev pub one_more : List ℕ → Option ℕ → List ℕ
+one_more served None = served
+one_more served (Some k) = raised served k
 
 -- one slot noted is one slot more for its owner, and for nobody else
 pub served_more :

@@ -1,8 +1,7 @@
 -- What a deferred book means.
-use Rattle.std.specs.Prelude.{◌≡◌, ℕ, ◌+◌, true, List}
+use Rattle.std.specs.Prelude.{List, ℕ}
 use Rattle.capacity.specs.Meaning.{Meaning}
 use Rattle.capacity.specs.Noted.{caught_up}
-use Rattle.capacity.specs.Slack.{rises}
 use Rattle.slot_book.specs.Slot.{slot_meaning}
 use Rattle.deferred_book.specs.declared.deferred.DeferredBook.{DeferredBook}
 use Rattle.deferred_book.specs.declared.notes.Notes.{Notes}
@@ -15,10 +14,6 @@ served_by notes = served_of notes.slots notes.noted
 -- What a book that means m would mean once the noted slots have passed.
 abbrev pub after_notes : Meaning → Notes → Meaning
 after_notes m notes = caught_up m notes.slots (served_by notes)
-
--- The noted slots end before the first interval of a book that means m.
-abbrev pub Within : Meaning → Notes → Type 0
-Within m notes = rises (m.clock + notes.slots) m.boundaries m.horizon ≡ true
 
 -- What the settled book would mean once the noted slots have passed.
 abbrev pub deferred_meaning : DeferredBook → Meaning

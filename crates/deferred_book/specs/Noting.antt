@@ -1,5 +1,5 @@
 -- The notes of the slots since a book was settled, and what they say that each boundary got.
-use Rattle.std.specs.Prelude.{◌≡◌, ℕ, zero, suc, ◌+◌, ◌-◌, ◌<◌, List, [], ◌∷◌, replicate, Some, None, Option, slice_index, slice_set}
+use Rattle.std.specs.Prelude.{◌≡◌, ℕ, zero, suc, ◌+◌, ◌-◌, List, [], ◌∷◌, replicate, Some, None, Option, slice_index, slice_set}
 use Rattle.terms.specs.Limits.{most_boundaries}
 use Rattle.deferred_book.specs.declared.notes.Notes.{Notes}
 
@@ -19,17 +19,7 @@ noting ns None = raised ns 0
 noting ns (Some zero) = ns
 noting ns (Some (suc k)) = raised (raised ns 0) (suc k)
 
--- What each boundary got, with one slot more: its owner got one more, if it had an owner.
-abbrev pub one_more : List ℕ → Option ℕ → List ℕ
-one_more served None = served
-one_more served (Some k) = raised served k
-
 -- No slot is noted.
 pub record Unnoted (notes : Notes) : Type 0 where
   pub slots : notes.slots ≡ 0
   pub noted : notes.noted ≡ replicate most_boundaries 0
-
--- A place, if there is one, lies below a number.
-abbrev pub Below : Option ℕ → ℕ → Type 0
-Below None n = Unit {0}
-Below (Some k) n = k < n

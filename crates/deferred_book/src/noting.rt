@@ -1,8 +1,9 @@
 // Noting a slot, in a constant number of steps.
 ghost use Rattle.std.specs.Prelude.{◌≡◌, ◌+◌, ◌<◌, slice_index};
+ghost use Rattle.std.specs.Option.{ForSome};
 ghost use Rattle.terms.specs.Limits.{longest_horizon, most_boundaries};
 ghost use Rattle.deferred_book.specs.Deferred.{served_by};
-ghost use Rattle.deferred_book.specs.Noting.{noting, Unnoted, Below};
+ghost use Rattle.deferred_book.specs.Noting.{noting, Unnoted};
 
 use crate::notes::Notes;
 use terms::limits::MAX_BOUNDARIES;
@@ -35,7 +36,7 @@ impl Notes {
     // Notes one slot more, for the boundary at a place or for nobody.
     pub(crate) fn note(&mut self, owner: Option<usize>)
         requires few { self.old.slots < longest_horizon }
-        requires place { Below owner most_boundaries }
+        requires place { ForSome owner (λ k. k < most_boundaries) }
         ensures slots { self.new.slots ≡ self.old.slots + 1 }
         ensures noted { self.new.noted ≡ noting self.old.noted owner }
     {

@@ -2,7 +2,7 @@ use Rattle.std.proofs.Common.{refl, arith, rules}
 use Rattle.slot_book.specs.Slot.{slot_meaning}
 use Rattle.deferred_book.specs.Deferred.{deferred_meaning}
 use Rattle.deferred_book.proofs.Facts.{book_ranged}
-use Rattle.deferred_book.proofs.Held.{clock_within, before_horizon, owner_found, owner_below, noted_run}
+use Rattle.deferred_book.proofs.Held.{clock_within, few_noted, owner_found, owner_below, noted_run}
 use Rattle.deferred_book.proofs.Keeping.{unnoted_meaning, noted_meaning}
 use Rattle.deferred_book.proofs.lines.DeferredBookBook.run.Goals as goal
 
@@ -13,8 +13,7 @@ pub returns-then-clock-first_end-clause-book : goal.returns-then-clock-first_end
 returns-then-clock-first_end-clause-book c = grind (arith, unnoted_meaning)
 
 pub note-requires-clause-few : goal.note-requires-clause-few
-note-requires-clause-few c =
-    omega (arith, before_horizon c.args.self.now (omega (arith, c.first_end.ensures)), book_ranged c.args.self.now.settled)
+note-requires-clause-few c = few_noted c.args.self.now (omega (arith, c.first_end.ensures))
 
 pub note-requires-clause-place : goal.note-requires-clause-place
 note-requires-clause-place c =
@@ -24,15 +23,12 @@ note-requires-clause-place c =
 
 pub returns : goal.returns
 returns c =
-    let book = c.args.self.now in
     let owned =
-    owner_found (deferred_meaning book) c.args.owner c.map.result c.in_ok-place.place _ (λ d r q. search rules)
+    owner_found (deferred_meaning c.args.self.now) c.args.owner c.map.result c.in_ok-place.place _ (λ d r q. search rules)
     c.map.ensures.cases (search rules)
     in
     let done =
-    noted_run book _ c.args.owner c.in_ok-place.place owned
-    (omega (arith, before_horizon book (omega (arith, c.first_end.ensures))))
-    (noted_meaning (slot_meaning book.settled) _ book.notes c.note.new.self c.in_ok-place.place
-    c.note.ensures.slots c.note.ensures.noted refl)
+    noted_run c.args.self.now c.note.new.self c.args.owner c.in_ok-place.place (omega (arith, c.first_end.ensures)) owned
+    c.note.ensures.slots c.note.ensures.noted
     in
     record { answer = done.0; book = done.1 }
