@@ -8,8 +8,7 @@ use Rattle.capacity.specs.Meaning.{Meaning}
 use Rattle.capacity.specs.Noted.{unserved, caught_up, first_end, catch_up_says}
 use Rattle.capacity.specs.Places.{Stands}
 use Rattle.capacity.specs.Slack.{rises, Ordered}
-use Rattle.capacity.proofs.Naturals.{rises_first, rises_rest}
-use Rattle.capacity.proofs.Least.{rises_le}
+use Rattle.capacity.proofs.Naturals.{rises_first}
 use Rattle.capacity.proofs.Noted.{rises_unserved}
 use Rattle.terms.specs.Answers.{said}
 use Rattle.terms.specs.declared.refusal.Refusal.{Refusal}
@@ -60,21 +59,18 @@ noted_for_nobody m slots ns r =
     let bs = caught_up_boundaries m slots ns r in
     rw (same, bs) refl
 
--- a slot that is in order before the boundaries does not pass the end of the first interval
-pub rises_to_first :
+-- slots that end before the first interval does are caught up with
+within_first :
     (s t : ℕ) (bs : List Boundary) (h : ℕ) → rises s bs h ≡ true → rises t bs h ≡ true → t ≤ first_end s bs
-rises_to_first s t [] h ordered r = omega (arith, eqb-true s h ordered, eqb-true t h r)
-rises_to_first s t (b ∷ bs) h ordered r = let first = rises_first t b bs h r in omega arith
-
--- the first interval ends by the horizon
-pub first_end_within : (s : ℕ) (bs : List Boundary) (h : ℕ) → rises s bs h ≡ true → first_end s bs ≤ h
-first_end_within s [] h r = omega (arith, eqb-true s h r)
-first_end_within s (b ∷ bs) h r = rises_le b.end bs h (rises_rest s b bs h r)
+within_first s t [] h ordered r = omega (arith, eqb-true s h ordered, eqb-true t h r)
+within_first s t (b ∷ bs) h ordered r = let first = rises_first t b bs h r in omega arith
 
 pub catches_up :
-    (m : Meaning) (slots : ℕ) (r : Result (Unit {0}) Refusal) → m.clock + slots ≤ first_end m.clock m.boundaries →
+    (m : Meaning) (slots : ℕ) (r : Result (Unit {0}) Refusal) → Ordered m →
+    rises (m.clock + slots) m.boundaries m.horizon ≡ true →
     said r ≡ catch_up_says m slots →
     IsOk r
-catches_up m slots (Ok x) le says = refl
-catches_up m slots (Err e) le says =
-    let wrong = rw (le-leb (m.clock + slots) (first_end m.clock m.boundaries) le) at says in cc
+catches_up m slots (Ok x) ordered r says = refl
+catches_up m slots (Err e) ordered r says =
+    let t = m.clock + slots in
+    let wrong = rw (le-leb t _ (within_first m.clock t m.boundaries m.horizon ordered r)) at says in cc

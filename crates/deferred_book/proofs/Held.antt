@@ -1,5 +1,5 @@
 -- What is known of every deferred book.
-use Rattle.std.proofs.Common.{◌≡◌, ℕ, ◌+◌, ◌-◌, ◌<◌, ◌≤◌, Bool, true, false, leb, List, length, get_or, Some, None, Option, Ok, Err, Result, refl, sym, ap, ◌∙◌, subst, arith, rules}
+use Rattle.std.proofs.Common.{◌≡◌, ℕ, ◌+◌, ◌-◌, ◌<◌, ◌≤◌, Bool, true, false, leb, List, length, get_or, Some, None, Option, Ok, Err, Result, refl, sym, ap, ◌∙◌, subst, arith}
 use Rattle.std.proofs.lemmas.Bool.{and_from, and_left, and_right, ne_eqb}
 use Rattle.std.specs.Bool.{then_some}
 use Rattle.std.specs.Option.{MatchOption, ForSome, IsSomeAnd, ok_or, option_transpose}
@@ -13,6 +13,7 @@ use Rattle.capacity.specs.Places.{Stands, Found, Owing}
 use Rattle.capacity.specs.Slack.{rises, Ordered}
 use Rattle.capacity.proofs.Least.{rises_le}
 use Rattle.capacity.proofs.Noted.{length_unserved, end_unserved, due_unserved, rises_unserved}
+use Rattle.capacity.proofs.Passing.{first_end_later}
 use Rattle.capacity.proofs.Places.{stands, ends_rise}
 use Rattle.slot_book.specs.Slot.{slot_meaning}
 use Rattle.terms.specs.Answers.{value}
@@ -24,7 +25,7 @@ use Rattle.deferred_book.specs.Deferred.{served_by, after_notes, deferred_meanin
 use Rattle.deferred_book.specs.declared.notes.Notes.{Notes}
 use Rattle.deferred_book.specs.Noting.{noting}
 use Rattle.deferred_book.proofs.Keeping.{noted_meaning}
-use Rattle.deferred_book.proofs.Catching.{caught_up_boundaries, noted_for, noted_for_nobody, rises_to_first, first_end_within}
+use Rattle.deferred_book.proofs.Catching.{caught_up_boundaries, noted_for, noted_for_nobody}
 use Rattle.deferred_book.proofs.Facts.{book_ordered, book_ranged, book_few}
 use Rattle.deferred_book.proofs.Served.{served_length}
 use Rattle.deferred_book.proofs.Unserved.{unserved_boundary}
@@ -38,14 +39,6 @@ clock_within b =
       rises_le (m.clock + b.notes.slots) m.boundaries m.horizon b.within,
       book_ranged b.settled,
     )
-
--- its noted slots do not pass the end of the first interval
-pub within_first :
-    (b : DeferredBook) →
-    (deferred_meaning b).clock ≤ first_end (slot_meaning b.settled).clock (slot_meaning b.settled).boundaries
-within_first b =
-    let m = slot_meaning b.settled in
-    rises_to_first m.clock (m.clock + b.notes.slots) m.boundaries m.horizon (book_ordered b.settled) b.within
 
 -- its boundaries are those of the settled book, with less due
 pub boundaries_are :
@@ -119,7 +112,7 @@ pub before_horizon :
     (deferred_meaning b).clock < (deferred_meaning b).horizon
 before_horizon b before =
     let m = slot_meaning b.settled in
-    omega (arith, first_end_within m.clock m.boundaries m.horizon (book_ordered b.settled))
+    omega (arith, (first_end_later m.clock m.boundaries m.horizon (book_ordered b.settled)).1)
 
 pub few_noted :
     (b : DeferredBook) →
@@ -133,10 +126,7 @@ place_below b d k at = omega (arith, at.within, count_is b, book_few b.settled)
 
 -- whom a slot is for, by deadline and by place: for nobody, or for a boundary with something due
 abbrev pub OwnedBy : Meaning → Option ℕ → Option ℕ → Type 0
-OwnedBy m None None = Unit {0}
-OwnedBy m None (Some k) = ⊥
-OwnedBy m (Some d) None = ⊥
-OwnedBy m (Some d) (Some k) = Owing m d 1 (Ok k)
+OwnedBy m owner place = MatchOption owner (place ≡ None) (λ d. IsSomeAnd place (λ k. Owing m d 1 (Ok k)))
 
 pub owner_found :
     (m : Meaning) (owner : Option ℕ) (found : Option (Result ℕ Refusal)) (place : Option ℕ)
@@ -144,22 +134,20 @@ pub owner_found :
     MatchOption owner (found ≡ None) (λ d. IsSomeAnd found (Finds d)) →
     option_transpose found ≡ Ok place →
     OwnedBy m owner place
-owner_found m None found None Finds tells none is = tt
-owner_found m None found (Some k) Finds tells none is = let wrong = rw none at is in cc
+owner_found m None found place Finds tells none is = let same = rw none at is in cc
 owner_found m (Some d) None place Finds tells some is = absurd some
 owner_found m (Some d) (Some (Err e)) place Finds tells some is = cc
-owner_found m (Some d) (Some (Ok k)) None Finds tells some is = cc
-owner_found m (Some d) (Some (Ok k)) (Some j) Finds tells some is =
-    let same : k ≡ j = cc in rw (← same) (tells d (Ok k) some)
+owner_found m (Some d) (Some (Ok k)) place Finds tells some is =
+    let same : Some k ≡ place = cc in rw (← same) (tells d (Ok k) some)
 
 -- the place of an owner is the place of a boundary
 pub owner_below :
     (b : DeferredBook) (owner place : Option ℕ) → OwnedBy (deferred_meaning b) owner place →
     ForSome place (λ k. k < most_boundaries)
-owner_below b None None owned = search rules
-owner_below b None (Some k) owned = absurd owned
+owner_below b None place owned = λ k is. cc
 owner_below b (Some d) None owned = absurd owned
-owner_below b (Some d) (Some k) owned = let below = place_below b d k owned.0 in search rules
+owner_below b (Some d) (Some j) owned =
+    λ k is. let same : j ≡ k = cc in rw (← same) (place_below b d j owned.0)
 
 -- a slot noted for its owner is that slot passed
 pub noted_run :
@@ -170,13 +158,14 @@ pub noted_run :
     notes.noted ≡ noting b.notes.noted place →
     (value tt ≡ run_says (deferred_meaning b) owner)
     × (after_notes (slot_meaning b.settled) notes ≡ run_leaves (deferred_meaning b) owner)
-noted_run b notes None None before owned slots noted =
+noted_run b notes None place before owned slots noted =
     let m = slot_meaning b.settled in
     let left = before_horizon b before in
-    rw
-    (ne_eqb (deferred_meaning b).clock (deferred_meaning b).horizon (omega arith))
-    (refl, noted_meaning m b.notes notes None slots noted ∙ noted_for_nobody m b.notes.slots (served_by b.notes) b.within)
-noted_run b notes None (Some k) before owned slots noted = absurd owned
+    rw (ne_eqb (deferred_meaning b).clock (deferred_meaning b).horizon (omega arith)) (
+      refl,
+      noted_meaning m b.notes notes None slots (rw owned at noted)
+          ∙ noted_for_nobody m b.notes.slots (served_by b.notes) b.within,
+    )
 noted_run b notes (Some d) None before owned slots noted = absurd owned
 noted_run b notes (Some d) (Some k) before owned slots noted =
     let m = slot_meaning b.settled in
@@ -187,5 +176,5 @@ noted_run b notes (Some d) (Some k) before owned slots noted =
     rw (owned.1, ne_eqb (deferred_meaning b).clock (deferred_meaning b).horizon (omega arith)) (
       refl,
       noted_meaning m b.notes notes (Some k) slots noted
-      ∙ noted_for m b.notes.slots (served_by b.notes) d k b.within (rw (boundaries_are b) at owned.0) here,
+          ∙ noted_for m b.notes.slots (served_by b.notes) d k b.within (rw (boundaries_are b) at owned.0) here,
     )

@@ -1,9 +1,7 @@
-use Rattle.std.proofs.Common.{refl, arith, rules}
-use Rattle.slot_book.specs.Slot.{slot_meaning}
+use Rattle.std.proofs.Common.{arith, rules}
 use Rattle.deferred_book.specs.Deferred.{deferred_meaning}
-use Rattle.deferred_book.proofs.Facts.{book_ranged}
 use Rattle.deferred_book.proofs.Held.{clock_within, few_noted, owner_found, owner_below, noted_run}
-use Rattle.deferred_book.proofs.Keeping.{unnoted_meaning, noted_meaning}
+use Rattle.deferred_book.proofs.Keeping.{unnoted_meaning}
 use Rattle.deferred_book.proofs.lines.DeferredBookBook.run.Goals as goal
 
 pub overflow_add-clock : goal.overflow_add-clock
