@@ -1,5 +1,5 @@
 // The deferred book: it notes the slots that pass, and brings a slot-by-slot book up to date only when someone asks.
-#![tactic(auto)]
+#![tactic(auto, using(crate::proofs::Keeping::unnoted_meaning))]
 
 mod deferred;
 mod lines;

@@ -1,8 +1,6 @@
-use Rattle.std.proofs.Common.{arith}
 use Rattle.slot_book.specs.Slot.{slot_meaning}
 use Rattle.deferred_book.proofs.Catching.{catches_up}
 use Rattle.deferred_book.proofs.Facts.{book_ordered}
-use Rattle.deferred_book.proofs.Keeping.{unnoted_meaning}
 use Rattle.deferred_book.proofs.deferred.DeferredBook.settle.Goals as goal
 
 pub unwrap-requires : goal.unwrap-requires
@@ -10,6 +8,3 @@ unwrap-requires c =
     let book = c.args.self.now in
     catches_up (slot_meaning book.settled) c.replace-slots.result.slots c.catch_up.result (book_ordered book.settled)
     (rw c.replace-slots.ensures.value book.within) c.catch_up.ensures.answer
-
-pub returns-clause-same : goal.returns-clause-same
-returns-clause-same c = grind (arith, unnoted_meaning)

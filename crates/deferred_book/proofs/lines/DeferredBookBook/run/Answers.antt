@@ -1,14 +1,10 @@
 use Rattle.std.proofs.Common.{arith, rules}
 use Rattle.deferred_book.specs.Deferred.{deferred_meaning}
 use Rattle.deferred_book.proofs.Held.{clock_within, few_noted, owner_found, owner_below, noted_run}
-use Rattle.deferred_book.proofs.Keeping.{unnoted_meaning}
 use Rattle.deferred_book.proofs.lines.DeferredBookBook.run.Goals as goal
 
 pub overflow_add-clock : goal.overflow_add-clock
 overflow_add-clock c = omega (arith, clock_within c.args.self.now)
-
-pub returns-then-clock-first_end-clause-book : goal.returns-then-clock-first_end-clause-book
-returns-then-clock-first_end-clause-book c = grind (arith, unnoted_meaning)
 
 pub note-requires-clause-few : goal.note-requires-clause-few
 note-requires-clause-few c = few_noted c.args.self.now (omega (arith, c.first_end.ensures))
