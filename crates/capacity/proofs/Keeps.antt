@@ -147,7 +147,3 @@ pub short_later :
     (s : ℕ) (bs : List Boundary) (h : ℕ) → rises s bs h ≡ true → s < h → short s bs ≤ s →
     short (s + 1) (later_than (s + 1) bs) ≤ s + 1
 short_later s bs h r sh le = short_after s (s + 1) bs le (omega arith) (slot_left s bs h r sh)
-
--- what is due at the end of the first interval, and what the others take before it, fit before that end
-pub due_fits : (s : ℕ) (b : Boundary) (bs : List Boundary) → short s (b ∷ bs) ≤ s → b.due + short b.end bs ≤ b.end
-due_fits s b bs le = omega arith

@@ -25,17 +25,6 @@ later_stays s (x ∷ bs) h b r read past =
     let lt : s + 1 < x.end = omega (arith, past) in
     rw (lt-ltb (s + 1) x.end lt) refl
 
-pub later_goes :
-    (s : ℕ) (bs : List Boundary) (h : ℕ) (b : Boundary) → rises s bs h ≡ true → b ≡ get_or bs 0 b →
-    b.end ≡ s + 1 →
-    0 < length bs →
-    later_than (s + 1) bs ≡ remove bs 0
-later_goes s [] h b r read here some = absurd (omega arith)
-later_goes s (x ∷ bs) h b r read here some =
-    let is = ap (λ y. y.end) read in
-    let le : x.end ≤ s + 1 = omega arith in
-    rw (le-ltb (s + 1) x.end le) refl
-
 -- while an interval is left, the start matters not to where it ends
 pub first_end_of : (s t : ℕ) (bs : List Boundary) → 0 < length bs → first_end s bs ≡ first_end t bs
 first_end_of s t [] some = absurd (omega arith)
