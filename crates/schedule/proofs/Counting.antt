@@ -3,6 +3,7 @@ use Rattle.std.proofs.Common.{◌≡◌, ℕ, zero, suc, ◌+◌, ◌-◌, ◌<�
 use Rattle.std.specs.List.{IsDistinct, AllByRecursion}
 use Rattle.std.proofs.ByRecursion.{All-weaker}
 use Rattle.std.proofs.lemmas.List.Sums.{sum_by-cons}
+use Rattle.std.proofs.lemmas.Map.Keys.{IsDistinct-head, IsDistinct-tail}
 use Rattle.std.proofs.lemmas.Bool.{cases_lt, cases_Bool, and_parts, leb-true, le-leb, lt-leb, ne_eqb, eqb-false}
 use Rattle.schedule.specs.declared.job.Job.{Job}
 use Rattle.schedule.specs.Schedules.{Commitments, WellFormed, Schedule, Keeps, GetsItsDemand, went_to, went_to_any, one_if, slots, given, job_numbers, order_numbers}
@@ -10,15 +11,6 @@ use Rattle.schedule.specs.Slot.{due_by, SoftWithinSlack}
 use Rattle.schedule.specs.Windows.{lies_in, need, demand, NoWindowOverfull}
 use Rattle.schedule.proofs.Slots.{owner_is, slots_grow, slots_inside}
 use Rattle.schedule.proofs.Totals.{sums_le, sums_add, sums_map, sums_none, all_of, all_left, all_right}
-
--- the laws of a list without repeats
-pub distinct_first : (n : ℕ) (ns : List ℕ) → IsDistinct eqb (n ∷ ns) → AllByRecursion (λ m. eqb n m ≡ false) ns
-unfolding IsDistinct
-distinct_first n ns d = d.0
-
-pub distinct_rest : (n : ℕ) (ns : List ℕ) → IsDistinct eqb (n ∷ ns) → IsDistinct eqb ns
-unfolding IsDistinct
-distinct_rest n ns d = d.1
 
 -- a slot that went to n went to no other number
 pub not_other : (n m : ℕ) (owner : Option ℕ) → went_to n owner ≡ true → eqb n m ≡ false → went_to m owner ≡ false
@@ -41,8 +33,8 @@ one_owner [] ms owner distinct =
     (λ (no : went_to_any ms owner ≡ false). rw no (omega arith))
     (cases_Bool (went_to_any ms owner))
 one_owner (n ∷ ns) ms owner distinct =
-    let differ = distinct_first n (ns ++ ms) distinct in
-    let rest = one_owner ns ms owner (distinct_rest n (ns ++ ms) distinct) in
+    let differ = IsDistinct-head eqb n (ns ++ ms) distinct in
+    let rest = one_owner ns ms owner (IsDistinct-tail eqb n (ns ++ ms) distinct) in
     let sum = sum_by-cons (λ m. one_if (went_to m owner)) n ns in
     ⊎_elim
     (λ (to : went_to n owner ≡ true).

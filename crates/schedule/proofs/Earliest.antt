@@ -3,6 +3,7 @@ use Rattle.std.proofs.Common.{◌≡◌, ℕ, zero, suc, ◌+◌, ◌-◌, ◌<�
 use Rattle.std.specs.List.{IsDistinct, ContainsAt as Has, AllByRecursion}
 use Rattle.std.proofs.ByRecursion.{All-weaker, All-map, all-has, all_has_itself}
 use Rattle.std.proofs.lemmas.List.Sums.{get_or-le-sum_by}
+use Rattle.std.proofs.lemmas.Map.Keys.{IsDistinct-head, IsDistinct-tail}
 use Rattle.std.proofs.lemmas.Bool.{cases_lt, cases_Bool, both_ways, eqb-true, eqb-false, ne_eqb, le-leb}
 use Rattle.schedule.specs.declared.job.Job.{Job}
 use Rattle.schedule.specs.declared.soft.SoftOrder.{SoftOrder}
@@ -10,7 +11,6 @@ use Rattle.schedule.specs.Earliest.{EarliestOwner, jobs_at, EarliestFirstKeeps}
 use Rattle.schedule.specs.Schedules.{Commitments, Schedule, GetsItsDemand, one_if, went_to, given, job_numbers, order_numbers}
 use Rattle.schedule.specs.Slot.{with_left, job_after, jobs_after, FitsAfter, Ready}
 use Rattle.schedule.specs.Windows.{need, demand, NoWindowOverfull}
-use Rattle.schedule.proofs.Counting.{distinct_first, distinct_rest}
 use Rattle.schedule.proofs.Slot.{slot_for_due_first, slot_while_none_ready}
 use Rattle.schedule.proofs.Slots.{went, slots_first, slots_none}
 use Rattle.schedule.proofs.Totals.{has_cases, all_of, all_both, all_mapped, all_left, all_right}
@@ -45,7 +45,7 @@ apart :
 apart i js ms distinct =
     all_mapped (λ m. eqb i.number m ≡ false) (λ k. k.number) js
     (all_left (λ m. eqb i.number m ≡ false) (job_numbers js) ms
-    (distinct_first i.number (job_numbers js ++ ms) distinct))
+    (IsDistinct-head eqb i.number (job_numbers js ++ ms) distinct))
 
 -- only one job has the number of a job
 only_one :
@@ -68,7 +68,7 @@ only_one P (i ∷ js) ms j distinct has p =
           absurd
           (eqb-false i.number j.number (all-has (λ k. eqb i.number k.number ≡ false) js j differ later)
           (eqb-true i.number j.number is)),
-      only_one P js ms j (distinct_rest i.number (job_numbers js ++ ms) distinct) later p,
+      only_one P js ms j (IsDistinct-tail eqb i.number (job_numbers js ++ ms) distinct) later p,
     ))
     (has_cases i js j has)
 
@@ -85,8 +85,8 @@ no_other (i ∷ js) ms j distinct has =
     ne_eqb m j.number (λ is. eqb-false i.number m not (ap (λ (x : Job). x.number) same ∙ sym is)))
     ms
     (all_right (λ m. eqb i.number m ≡ false) (job_numbers js) ms
-    (distinct_first i.number (job_numbers js ++ ms) distinct)))
-    (λ (later : Has js j). no_other js ms j (distinct_rest i.number (job_numbers js ++ ms) distinct) later)
+    (IsDistinct-head eqb i.number (job_numbers js ++ ms) distinct)))
+    (λ (later : Has js j). no_other js ms j (IsDistinct-tail eqb i.number (job_numbers js ++ ms) distinct) later)
     (has_cases i js j has)
 
 -- who can get a slot at t by this rule
