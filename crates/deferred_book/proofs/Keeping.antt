@@ -1,4 +1,4 @@
--- A book with nothing noted means what its settled book means, and noting a slot gives it to its owner.
+-- Settling keeps the meaning, and noting a slot gives it to its owner.
 use Rattle.std.proofs.Common.{◌≡◌, ℕ, ◌+◌, replicate, Option, ap, ◌∙◌}
 use Rattle.capacity.specs.Meaning.{Meaning}
 use Rattle.capacity.specs.Noted.{caught_up}
@@ -24,6 +24,13 @@ unnoted_meaning settled notes none =
     let m = slot_meaning settled in
     ap (λ s. caught_up m s (served_by notes)) none.slots ∙ ap (caught_up m 0) (nobody_served notes none)
     ∙ caught_up_none m most_boundaries (book_ordered settled)
+
+-- Settling keeps the meaning: a book that has caught up with its notes, and has none any more, means what it meant with them.
+pub settling_keeps_the_meaning :
+    (before settled : SlotBook) (notes none : Notes) → slot_meaning settled ≡ after_notes (slot_meaning before) notes →
+    Unnoted none →
+    after_notes (slot_meaning settled) none ≡ after_notes (slot_meaning before) notes
+settling_keeps_the_meaning before settled notes none caught empty = unnoted_meaning settled none empty ∙ caught
 
 -- with one slot more noted, its owner has got one more
 pub noted_meaning :
