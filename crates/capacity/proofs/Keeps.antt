@@ -1,7 +1,7 @@
 -- What every line of a book keeps: the boundaries rise to the horizon, and the intervals take no more from before the clock than
 -- the slots that have passed.
-use Rattle.std.proofs.Common.{◌≡◌, ℕ, ◌+◌, ◌-◌, ◌<◌, ◌≤◌, true, false, eqb, ltb, List, [], ◌∷◌, refl, ⊎_elim, arith}
-use Rattle.std.proofs.lemmas.Bool.{cases_lt, cases_Bool, and_from, eqb-true, eqb-false, lt-ltb, le-ltb, both_ways, or_parts}
+use Rattle.std.proofs.Common.{◌≡◌, ℕ, ◌+◌, ◌-◌, ◌<◌, ◌≤◌, true, false, eqb, ltb, List, [], ◌∷◌, ⊎_elim, arith}
+use Rattle.std.proofs.lemmas.Bool.{cases_lt, cases_Bool, and_from, eqb-true, eqb-false, lt-ltb, le-ltb, or_parts}
 use Rattle.capacity.specs.declared.boundary.Boundary.{Boundary}
 use Rattle.capacity.specs.Calls.{is_boundary, due_at, with_due, with_boundary, later_than}
 use Rattle.capacity.specs.Noted.{first_end}
@@ -15,7 +15,7 @@ rises_cons s b bs h lt r = and_from (ltb s b.end) (rises b.end bs h) (lt-ltb s b
 
 -- every boundary lies behind the start
 pub boundary_later : (s : ℕ) (bs : List Boundary) (h d : ℕ) → rises s bs h ≡ true → is_boundary bs d ≡ true → s < d
-boundary_later s [] h d r is = absurd (both_ways false refl is)
+boundary_later s [] h d r is = cc
 boundary_later s (b ∷ bs) h d r is =
     let first = rises_first s b bs h r in
     ⊎_elim
@@ -58,7 +58,7 @@ short_with_less s (b ∷ bs) d c le =
 pub short_with_more :
     (s : ℕ) (bs : List Boundary) (h d c : ℕ) → rises s bs h ≡ true → is_boundary bs d ≡ true →
     short s (with_due bs d (due_at bs d + c)) ≤ short s bs + (c - room s bs d)
-short_with_more s [] h d c r is = absurd (both_ways false refl is)
+short_with_more s [] h d c r is = cc
 short_with_more s (b ∷ bs) h d c r is =
     let first = rises_first s b bs h r in
     let rest = rises_rest s b bs h r in

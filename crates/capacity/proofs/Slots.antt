@@ -1,6 +1,6 @@
 -- A slot for a deadline is one slot forgiven there, and then a slot for nobody.
 use Rattle.std.proofs.Common.{◌≡◌, ℕ, ◌-◌, ◌≤◌, Bool, true, false, not, eqb, leb, List, [], ◌∷◌, Some, None, refl, ⊎_elim, arith}
-use Rattle.std.proofs.lemmas.Bool.{cases_Bool, and_parts, eqb-true, ne_eqb, both_ways}
+use Rattle.std.proofs.lemmas.Bool.{cases_Bool, and_parts, eqb-true, ne_eqb}
 use Rattle.terms.specs.Answers.{value, refuse}
 use Rattle.capacity.specs.declared.boundary.Boundary.{Boundary}
 use Rattle.capacity.specs.Calls.{is_boundary, due_at, is_due, with_due, with_boundaries, forgive_says, forgive_leaves, run_says, run_leaves, passed}
@@ -12,7 +12,7 @@ use Rattle.capacity.proofs.Keeps.{boundary_later}
 
 -- no boundary lies behind the horizon
 pub boundary_within : (s : ℕ) (bs : List Boundary) (h d : ℕ) → rises s bs h ≡ true → is_boundary bs d ≡ true → d ≤ h
-boundary_within s [] h d r is = absurd (both_ways false refl is)
+boundary_within s [] h d r is = cc
 boundary_within s (b ∷ bs) h d r is =
     let rest = rises_rest s b bs h r in
     ⊎_elim
@@ -48,7 +48,7 @@ run_is_forgive_and_pass m d ordered due =
 
 taken : (b : Bool) (x : Unit {0}) → value x ≡ refuse 6 (not b) (value tt) → b ≡ true
 taken true x says = refl
-taken false x says = let z : ◌≡◌ {A = ℕ} 0 1 = cc in absurd (omega arith)
+taken false x says = cc
 
 -- what was forgiven was due
 pub forgiven : (m : Meaning) (d c : ℕ) (x : Unit {0}) → value x ≡ forgive_says m d c → is_due m d c ≡ true

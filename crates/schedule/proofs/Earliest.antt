@@ -4,7 +4,7 @@ use Rattle.std.specs.List.{IsDistinct, ContainsAt as Has, AllByRecursion}
 use Rattle.std.proofs.ByRecursion.{All-weaker, All-map, all-has, all_has_itself}
 use Rattle.std.proofs.lemmas.List.Sums.{get_or-le-sum_by}
 use Rattle.std.proofs.lemmas.Map.Keys.{IsDistinct-head, IsDistinct-tail}
-use Rattle.std.proofs.lemmas.Bool.{cases_lt, cases_Bool, both_ways, eqb-true, eqb-false, ne_eqb, le-leb}
+use Rattle.std.proofs.lemmas.Bool.{cases_lt, cases_Bool, eqb-true, eqb-false, ne_eqb, le-leb}
 use Rattle.schedule.specs.declared.job.Job.{Job}
 use Rattle.schedule.specs.declared.soft.SoftOrder.{SoftOrder}
 use Rattle.schedule.specs.Earliest.{EarliestOwner, jobs_at, EarliestFirstKeeps}
@@ -99,7 +99,7 @@ earliest_is_rightful :
     (t : ℕ) (js : List Job) (ms : List ℕ) (owner : Option ℕ) → IsDistinct eqb (job_numbers js ++ ms) →
     NoWindowOverfull t js → EarliestOwner t js owner →
     Rightful t js ms owner
-earliest_is_rightful t js ms None distinct fits earliest = (all_of _ (λ k is. absurd (both_ways false refl is)) js, all_of _ (λ m. refl) ms)
+earliest_is_rightful t js ms None distinct fits earliest = (all_of _ (λ k is. cc) js, all_of _ (λ m. refl) ms)
 earliest_is_rightful t js ms (Some n) distinct fits (j, first, is) =
     let in-time = left_fits t js j first.0 fits first.1.1 in
     subst (λ x. Rightful t js ms (Some x)) is (

@@ -5,7 +5,7 @@ use Rattle.schedule.specs.Schedules.{went_to, one_if, slots}
 
 -- the owner that a slot went to
 pub owner_is : (n : ℕ) (owner : Option ℕ) → went_to n owner ≡ true → owner ≡ Some n
-owner_is n None went = absurd (let z : ◌≡◌ {A = ℕ} 0 1 = cc in omega arith)
+owner_is n None went = cc
 owner_is n (Some m) went = ap Some (sym (eqb-true n m went))
 
 pub went : (n : ℕ) (owner : Option ℕ) → owner ≡ Some n → went_to n owner ≡ true
