@@ -2,6 +2,7 @@
 -- the slots that have passed.
 use Rattle.std.proofs.Common.{◌≡◌, ℕ, ◌+◌, ◌-◌, ◌<◌, ◌≤◌, true, false, eqb, ltb, List, [], ◌∷◌, ⊎_elim, arith}
 use Rattle.std.proofs.lemmas.Bool.{cases_lt, cases_Bool, and_from, eqb-true, eqb-false, lt-ltb, le-ltb, or_parts}
+use Rattle.std.proofs.lemmas.Bool.Decides.{nat_tests}
 use Rattle.capacity.specs.declared.boundary.Boundary.{Boundary}
 use Rattle.capacity.specs.Calls.{is_boundary, due_at, with_due, with_boundary, later_than}
 use Rattle.capacity.specs.Noted.{first_end}
@@ -18,11 +19,8 @@ pub boundary_later : (s : ℕ) (bs : List Boundary) (h d : ℕ) → rises s bs h
 boundary_later s [] h d r is = cc
 boundary_later s (b ∷ bs) h d r is =
     let first = rises_first s b bs h r in
-    ⊎_elim
-    (λ (same : eqb b.end d ≡ true). let e = eqb-true b.end d same in omega arith)
-    (λ (other : eqb b.end d ≡ false).
-    let more = boundary_later b.end bs h d (rises_rest s b bs h r) (rw other at is) in omega arith)
-    (cases_Bool (eqb b.end d))
+    let more = boundary_later b.end bs h d (rises_rest s b bs h r) in
+    grind (arith, nat_tests)
 
 -- with_due: the ends stay
 pub rises_with_due :
@@ -30,29 +28,16 @@ pub rises_with_due :
 rises_with_due s [] h d c r = r
 rises_with_due s (b ∷ bs) h d c r =
     let first = rises_first s b bs h r in
-    let rest = rises_rest s b bs h r in
-    ⊎_elim
-    (λ (same : eqb b.end d ≡ true).
-    let e = eqb-true b.end d same in
-    rw same (rw e at r))
-    (λ (other : eqb b.end d ≡ false).
-    rw other (rises_cons s b (with_due bs d c) h first (rises_with_due b.end bs h d c rest)))
-    (cases_Bool (eqb b.end d))
+    let rest = rises_with_due b.end bs h d c (rises_rest s b bs h r) in
+    grind (arith, nat_tests)
 
 -- less due takes no more
 pub short_with_less :
     (s : ℕ) (bs : List Boundary) (d c : ℕ) → c ≤ due_at bs d → short s (with_due bs d c) ≤ short s bs
 short_with_less s [] d c le = omega arith
 short_with_less s (b ∷ bs) d c le =
-    ⊎_elim
-    (λ (same : eqb b.end d ≡ true).
-    let e = eqb-true b.end d same in
-    let le' = rw same at le in
-    rw (same, ← e) (omega arith))
-    (λ (other : eqb b.end d ≡ false).
-    let more = short_with_less b.end bs d c (rw other at le) in
-    rw other (omega arith))
-    (cases_Bool (eqb b.end d))
+    let more = short_with_less b.end bs d c in
+    grind (arith, nat_tests)
 
 -- c more due takes from before the start only what the room at d cannot take
 pub short_with_more :
@@ -100,12 +85,8 @@ pub short_with_boundary :
     (s : ℕ) (bs : List Boundary) (d : ℕ) → s ≤ d → short s (with_boundary bs d) ≡ short s bs
 short_with_boundary s [] d le = omega arith
 short_with_boundary s (b ∷ bs) d le =
-    ⊎_elim
-    (λ (lt : d < b.end). rw (lt-ltb d b.end lt) (omega arith))
-    (λ (ge : b.end ≤ d).
-    let more = short_with_boundary b.end bs d ge in
-    rw (le-ltb d b.end ge) (omega arith))
-    (cases_lt d b.end)
+    let more = short_with_boundary b.end bs d in
+    grind (arith, nat_tests)
 
 -- slots of the first interval pass, and the boundary that the clock reaches goes
 pub rises_after :
@@ -114,24 +95,13 @@ pub rises_after :
 rises_after s t [] h r st te = let e : t ≡ s = omega arith in rw e r
 rises_after s t (b ∷ bs) h r st te =
     let rest = rises_rest s b bs h r in
-    ⊎_elim
-    (λ (lt : t < b.end). rw (lt-ltb t b.end lt) (rises_cons t b bs h lt rest))
-    (λ (ge : b.end ≤ t).
-    let e : t ≡ b.end = omega arith in
-    rw (le-ltb t b.end ge) (rw e rest))
-    (cases_lt t b.end)
+    grind (arith, nat_tests)
 
 pub short_after :
     (s t : ℕ) (bs : List Boundary) → short s bs ≤ s → s ≤ t → t ≤ first_end s bs → short t (later_than t bs) ≤ t
 short_after s t [] le st te = omega arith
 short_after s t (b ∷ bs) le st te =
-    ⊎_elim
-    (λ (lt : t < b.end). rw (lt-ltb t b.end lt) (omega arith))
-    (λ (ge : b.end ≤ t).
-    let e : t ≡ b.end = omega arith in
-    let fits : short b.end bs ≤ b.end = omega arith in
-    rw (le-ltb t b.end ge) (rw e fits))
-    (cases_lt t b.end)
+    grind (arith, nat_tests)
 
 -- before the horizon the first interval has a slot
 pub slot_left : (s : ℕ) (bs : List Boundary) (h : ℕ) → rises s bs h ≡ true → s < h → s + 1 ≤ first_end s bs
