@@ -1,7 +1,7 @@
 -- What every line of a book keeps: the boundaries rise to the horizon, and the intervals take no more from before the clock than
 -- the slots that have passed.
-use Rattle.std.proofs.Common.{◌≡◌, ℕ, ◌+◌, ◌-◌, ◌<◌, ◌≤◌, true, false, eqb, ltb, List, [], ◌∷◌, ⊎_elim, arith}
-use Rattle.std.proofs.lemmas.Bool.{cases_lt, cases_Bool, and_from, eqb-true, eqb-false, lt-ltb, le-ltb, or_parts}
+use Rattle.std.proofs.Common.{◌≡◌, ℕ, ◌+◌, ◌-◌, ◌<◌, ◌≤◌, true, false, ltb, List, [], ◌∷◌, arith}
+use Rattle.std.proofs.lemmas.Bool.{and_from, lt-ltb}
 use Rattle.std.proofs.lemmas.Bool.Decides.{nat_tests}
 use Rattle.capacity.specs.declared.boundary.Boundary.{Boundary}
 use Rattle.capacity.specs.Calls.{is_boundary, due_at, with_due, with_boundary, later_than}
@@ -47,39 +47,21 @@ short_with_more s [] h d c r is = cc
 short_with_more s (b ∷ bs) h d c r is =
     let first = rises_first s b bs h r in
     let rest = rises_rest s b bs h r in
-    ⊎_elim
-    (λ (same : eqb b.end d ≡ true).
-    let e = eqb-true b.end d same in
     let none = room_none b.end bs h b.end rest (omega arith) in
-    rw (same, ← e) (omega arith))
-    (λ (other : eqb b.end d ≡ false).
-    let is' = rw other at is in
-    let past = boundary_later b.end bs h d rest is' in
-    let more = short_with_more b.end bs h d c rest is' in
-    rw other (omega arith))
-    (cases_Bool (eqb b.end d))
+    let past = boundary_later b.end bs h d rest in
+    let more = short_with_more b.end bs h d c rest in
+    grind (arith, nat_tests)
 
 -- with_boundary: a new boundary with nothing due
 pub rises_with_boundary :
     (s : ℕ) (bs : List Boundary) (h d : ℕ) → rises s bs h ≡ true → is_boundary bs d ≡ false → s < d → d ≤ h →
     rises s (with_boundary bs d) h ≡ true
-rises_with_boundary s [] h d r new sd dh = let e = eqb-true s h r in absurd (omega arith)
+rises_with_boundary s [] h d r new sd dh = grind (arith, nat_tests)
 rises_with_boundary s (b ∷ bs) h d r new sd dh =
     let first = rises_first s b bs h r in
     let rest = rises_rest s b bs h r in
-    let parts = or_parts (eqb b.end d) (is_boundary bs d) new in
-    let ne = eqb-false b.end d parts.0 in
-    ⊎_elim
-    (λ (lt : d < b.end).
-    rw
-    (lt-ltb d b.end lt)
-    (rises_cons s (record { end = d; due = 0 }) (b ∷ bs) h sd (rises_cons d b bs h lt rest)))
-    (λ (ge : b.end ≤ d).
-    let past : b.end < d = omega (arith, ne) in
-    rw
-    (le-ltb d b.end ge)
-    (rises_cons s b (with_boundary bs d) h first (rises_with_boundary b.end bs h d rest parts.1 past dh)))
-    (cases_lt d b.end)
+    let more = rises_with_boundary b.end bs h d rest in
+    grind (arith, nat_tests)
 
 pub short_with_boundary :
     (s : ℕ) (bs : List Boundary) (d : ℕ) → s ≤ d → short s (with_boundary bs d) ≡ short s bs
@@ -105,8 +87,8 @@ short_after s t (b ∷ bs) le st te =
 
 -- before the horizon the first interval has a slot
 pub slot_left : (s : ℕ) (bs : List Boundary) (h : ℕ) → rises s bs h ≡ true → s < h → s + 1 ≤ first_end s bs
-slot_left s [] h r sh = let e = eqb-true s h r in absurd (omega arith)
-slot_left s (b ∷ bs) h r sh = let first = rises_first s b bs h r in omega arith
+slot_left s [] h r sh = grind (arith, nat_tests)
+slot_left s (b ∷ bs) h r sh = grind (arith, nat_tests)
 
 -- a slot passes
 pub rises_later :

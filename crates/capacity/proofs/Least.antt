@@ -1,5 +1,6 @@
 -- Headroom is the least slack. All of it is by recursion over the boundaries, for any start s and any slack a gathered before s.
 use Rattle.std.proofs.Common.{◌≡◌, ℕ, ◌+◌, ◌-◌, ◌<◌, ◌≤◌, true, List, [], ◌∷◌, refl, ⊎_elim, arith}
+use Rattle.std.proofs.lemmas.Bool.Decides.{nat_tests}
 use Rattle.std.proofs.lemmas.Int.{ints}
 use Rattle.std.proofs.lemmas.Bool.{cases_lt, eqb-true, le-leb, lt-leb}
 use Rattle.capacity.specs.declared.boundary.Boundary.{Boundary}
@@ -20,9 +21,8 @@ pub due_by_none : (s : ℕ) (bs : List Boundary) (h u : ℕ) → rises s bs h �
 due_by_none s [] h u r le = refl
 due_by_none s (b ∷ bs) h u r le =
     let first = rises_first s b bs h r in
-    let rest = due_by_none b.end bs h u (rises_rest s b bs h r) (omega arith) in
-    let lt : u < b.end = omega arith in
-    rw (lt-leb b.end u lt) (omega arith)
+    let rest = due_by_none b.end bs h u (rises_rest s b bs h r) in
+    grind (arith, nat_tests)
 
 -- what is due by u, before and from the first boundary on
 due_by_before : (b : Boundary) (bs : List Boundary) (u : ℕ) → u < b.end → due_by (b ∷ bs) u ≡ due_by bs u
@@ -42,31 +42,12 @@ room_suffices s [] h d c a r sd fits le u du uh = omega arith
 room_suffices s (b ∷ bs) h d c a r sd fits le u du uh =
     let first = rises_first s b bs h r in
     let rest = rises_rest s b bs h r in
-    ⊎_elim
-    (λ (lt : u < b.end).
-    let none = due_by_none b.end bs h u rest (omega arith) in
-    let no_room = room_none b.end bs h d rest (omega arith) in
-    rw (lt-leb b.end u lt) (omega arith))
-    (λ (ge : b.end ≤ u).
-    rw
-    (le-leb b.end u ge)
-    (⊎_elim
-    (λ (past : b.end < d).
-    let more =
-    room_suffices b.end bs h d c (a + b.end - (s + b.due)) rest (omega arith) (omega arith) (omega arith) u
-    du uh
-    in
-    omega arith)
-    (λ (within : d ≤ b.end).
-    let no_room = room_none b.end bs h d rest within in
-    let no-room-here = room_none b.end bs h b.end rest (omega arith) in
-    let more =
-    room_suffices b.end bs h b.end c (a + b.end - (s + b.due)) rest (omega arith) (omega arith)
-    (omega arith) u ge uh
-    in
-    omega arith)
-    (cases_lt b.end d)))
-    (cases_lt u b.end)
+    let none = due_by_none b.end bs h u rest in
+    let no_room = room_none b.end bs h d rest in
+    let no_room_here = room_none b.end bs h b.end rest (omega arith) in
+    let past = room_suffices b.end bs h d c (a + b.end - (s + b.due)) rest in
+    let within = room_suffices b.end bs h b.end c (a + b.end - (s + b.due)) rest (omega arith) in
+    grind (arith, nat_tests)
 
 -- where no slack falls below a, the intervals take no more than a from before s
 pub short_within :

@@ -1,8 +1,9 @@
 -- Spare capacity and headroom in natural numbers: what an interval lacks and what it has free, of which one is always 0.
 use Rattle.std.proofs.Common.{◌≡◌, ℕ, ◌+◌, ◌-◌, ◌<◌, ◌≤◌, min, true, ltb, List, [], ◌∷◌, ℤ, pos, negsuc, ◌+ℤ◌, ◌-ℤ◌, refl, ap, ◌∙◌, ⊎_elim, arith}
+use Rattle.std.proofs.lemmas.Bool.Decides.{nat_tests}
 use Rattle.std.specs.Int.{int_min}
 use Rattle.std.proofs.lemmas.Int.{ints, clamps}
-use Rattle.std.proofs.lemmas.Bool.{cases_lt, and_parts, ltb-true, le-leb, lt-leb}
+use Rattle.std.proofs.lemmas.Bool.{cases_lt, and_parts, ltb-true}
 use Rattle.capacity.specs.declared.boundary.Boundary.{Boundary}
 use Rattle.capacity.specs.Spare.{first_spare, positive_part, headroom_from}
 use Rattle.capacity.specs.Shortage.{short}
@@ -68,11 +69,6 @@ headroom_is_room s (b ∷ bs) h d r le =
     let is = spare_is s b bs in
     let own = positive_min_is (first_spare s (b ∷ bs)) b.end (s + b.due + short b.end bs) d s le is in
     let all = positive_part_is (first_spare s (b ∷ bs)) b.end (s + b.due + short b.end bs) is in
-    ⊎_elim
-    (λ (lt : b.end < d).
-    let more = headroom_is_room b.end bs h d rest (omega arith) in
-    rw (lt-leb d b.end lt) (omega arith))
-    (λ (ge : d ≤ b.end).
-    let none = room_none b.end bs h d rest ge in
-    rw (le-leb d b.end ge) (omega arith))
-    (cases_lt b.end d)
+    let more = headroom_is_room b.end bs h d rest in
+    let none = room_none b.end bs h d rest in
+    grind (arith, nat_tests)

@@ -1,5 +1,6 @@
 -- A slot that passes: whether the first boundary goes.
 use Rattle.std.proofs.Common.{◌≡◌, ℕ, ◌+◌, ◌<◌, ◌≤◌, true, List, [], ◌∷◌, length, get_or, refl, ap, arith}
+use Rattle.std.proofs.lemmas.Bool.Decides.{nat_tests}
 use Rattle.std.proofs.lemmas.Bool.{eqb-true, lt-ltb}
 use Rattle.capacity.specs.declared.boundary.Boundary.{Boundary}
 use Rattle.capacity.specs.Calls.{later_than}
@@ -35,7 +36,7 @@ within_first s t (b ∷ bs) le = le
 
 -- the first interval ends between its start and the horizon
 pub first_end_later : (s : ℕ) (bs : List Boundary) (h : ℕ) → rises s bs h ≡ true → (s ≤ first_end s bs) × (first_end s bs ≤ h)
-first_end_later s [] h r = let e = eqb-true s h r in (omega arith, omega arith)
+first_end_later s [] h r = grind (arith, nat_tests)
 first_end_later s (b ∷ bs) h r =
     let first = rises_first s b bs h r in
     (omega arith, rises_le b.end bs h (rises_rest s b bs h r))

@@ -1,6 +1,7 @@
 -- A slot for a deadline is one slot forgiven there, and then a slot for nobody.
-use Rattle.std.proofs.Common.{◌≡◌, ℕ, ◌-◌, ◌≤◌, Bool, true, false, not, eqb, leb, List, [], ◌∷◌, Some, None, refl, ⊎_elim, arith}
-use Rattle.std.proofs.lemmas.Bool.{cases_Bool, and_parts, eqb-true, ne_eqb}
+use Rattle.std.proofs.Common.{◌≡◌, ℕ, ◌-◌, ◌≤◌, Bool, true, false, not, eqb, leb, List, [], ◌∷◌, Some, None, refl, arith}
+use Rattle.std.proofs.lemmas.Bool.Decides.{nat_tests}
+use Rattle.std.proofs.lemmas.Bool.{and_parts, ne_eqb}
 use Rattle.terms.specs.Answers.{value, refuse}
 use Rattle.capacity.specs.declared.boundary.Boundary.{Boundary}
 use Rattle.capacity.specs.Calls.{is_boundary, due_at, is_due, with_due, with_boundaries, forgive_says, forgive_leaves, run_says, run_leaves, passed}
@@ -15,11 +16,9 @@ pub boundary_within : (s : ℕ) (bs : List Boundary) (h d : ℕ) → rises s bs 
 boundary_within s [] h d r is = cc
 boundary_within s (b ∷ bs) h d r is =
     let rest = rises_rest s b bs h r in
-    ⊎_elim
-    (λ (same : eqb b.end d ≡ true).
-    let e = eqb-true b.end d same in omega (arith, rises_le b.end bs h rest))
-    (λ (other : eqb b.end d ≡ false). boundary_within b.end bs h d rest (rw other at is))
-    (cases_Bool (eqb b.end d))
+    let last = rises_le b.end bs h rest in
+    let more = boundary_within b.end bs h d rest in
+    grind (arith, nat_tests)
 
 -- where something is due, a slot is left
 slot_before : (m : Meaning) (d : ℕ) → Ordered m → is_due m d 1 ≡ true → eqb m.clock m.horizon ≡ false
