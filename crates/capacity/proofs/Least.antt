@@ -1,8 +1,7 @@
 -- Headroom is the least slack. All of it is by recursion over the boundaries, for any start s and any slack a gathered before s.
-use Rattle.std.proofs.Common.{◌≡◌, ℕ, ◌+◌, ◌-◌, ◌<◌, ◌≤◌, true, List, [], ◌∷◌, refl, ⊎_elim, arith}
+use Rattle.std.proofs.Common.{◌≡◌, ℕ, ◌+◌, ◌-◌, ◌<◌, ◌≤◌, true, List, [], ◌∷◌, refl, arith}
 use Rattle.std.proofs.lemmas.Bool.Decides.{nat_tests}
 use Rattle.std.proofs.lemmas.Int.{ints}
-use Rattle.std.proofs.lemmas.Bool.{cases_lt, eqb-true, le-leb, lt-leb}
 use Rattle.capacity.specs.declared.boundary.Boundary.{Boundary}
 use Rattle.capacity.specs.Meaning.{Meaning}
 use Rattle.capacity.specs.Slack.{rises, due_by, HeadroomIsLeastSlack, SpareMeansSlack}
@@ -10,7 +9,7 @@ use Rattle.capacity.specs.Shortage.{short}
 use Rattle.capacity.proofs.Naturals.{room, room_none, rises_first, rises_rest, headroom_is_room, spare_is}
 
 pub rises_le : (s : ℕ) (bs : List Boundary) (h : ℕ) → rises s bs h ≡ true → s ≤ h
-rises_le s [] h r = let e = eqb-true s h r in omega arith
+rises_le s [] h r = grind (arith, nat_tests)
 rises_le s (b ∷ bs) h r =
     let first = rises_first s b bs h r in
     let rest = rises_le b.end bs h (rises_rest s b bs h r) in
@@ -23,13 +22,6 @@ due_by_none s (b ∷ bs) h u r le =
     let first = rises_first s b bs h r in
     let rest = due_by_none b.end bs h u (rises_rest s b bs h r) in
     grind (arith, nat_tests)
-
--- what is due by u, before and from the first boundary on
-due_by_before : (b : Boundary) (bs : List Boundary) (u : ℕ) → u < b.end → due_by (b ∷ bs) u ≡ due_by bs u
-due_by_before b bs u lt = rw (lt-leb b.end u lt) (omega arith)
-
-due_by_past : (b : Boundary) (bs : List Boundary) (u : ℕ) → b.end ≤ u → due_by (b ∷ bs) u ≡ b.due + due_by bs u
-due_by_past b bs u ge = rw (le-leb b.end u ge) refl
 
 -- room for c more slots at d leaves enough slack from d on
 pub room_suffices :
@@ -58,13 +50,10 @@ short_within s [] h a r slack = omega arith
 short_within s (b ∷ bs) h a r slack =
     let first = rises_first s b bs h r in
     let rest = rises_rest s b bs h r in
-    let here = slack b.end first (rises_le b.end bs h rest) in
-    let due = due_by_past b bs b.end (omega arith) in
-    let more =
-    short_within b.end bs h (a + b.end - (s + b.due)) rest
-    (λ u lt uh. omega (arith, slack u (omega arith) uh, due_by_past b bs u (omega arith)))
-    in
-    omega arith
+    let last = rises_le b.end bs h rest in
+    let here = slack b.end in
+    let more = short_within b.end bs h (a + b.end - (s + b.due)) rest in
+    grind (arith, nat_tests)
 
 -- slack enough from d on leaves room for c more slots at d
 pub room_needed :
@@ -72,74 +61,41 @@ pub room_needed :
     short s bs ≤ a →
     ((u : ℕ) → d ≤ u → u ≤ h → due_by bs u + c + s ≤ u + a) →
     c + short s bs ≤ a + room s bs d
-room_needed s [] h d c a r sd dh le slack = let e = eqb-true s h r in omega arith
+room_needed s [] h d c a r sd dh le slack = grind (arith, nat_tests)
 room_needed s (b ∷ bs) h d c a r sd dh le slack =
-    let first = rises_first s b bs h r in
     let rest = rises_rest s b bs h r in
-    ⊎_elim
-    (λ (past : b.end < d).
-    let more =
-    room_needed b.end bs h d c (a + b.end - (s + b.due)) rest past dh (omega arith)
-    (λ u du uh. omega (arith, slack u du uh, due_by_past b bs u (omega arith)))
-    in
-    omega arith)
-    (λ (within : d ≤ b.end).
-    let none = room_none b.end bs h d rest within in
-    let here = slack b.end within (rises_le b.end bs h rest) in
-    let due = due_by_past b bs b.end (omega arith) in
-    let lack =
-    short_within b.end bs h (a + b.end - (s + b.due + c)) rest
-    (λ u lt uh. omega (arith, slack u (omega arith) uh, due_by_past b bs u (omega arith)))
-    in
-    let at-d : c + s ≤ d + a =
-    ⊎_elim
-    (λ (lt : d < b.end).
-    omega (arith, slack d (omega arith) dh, due_by_before b bs d lt))
-    (λ (ge : b.end ≤ d). omega arith)
-    (cases_lt d b.end)
-    in
-    omega arith)
-    (cases_lt b.end d)
+    let last = rises_le b.end bs h rest in
+    let none = room_none b.end bs h d rest in
+    let there = slack d in
+    let here = slack b.end in
+    let past = room_needed b.end bs h d c (a + b.end - (s + b.due)) rest in
+    let within = short_within b.end bs h (a + b.end - (s + b.due + c)) rest in
+    grind (arith, nat_tests)
 
 pub headroom_is_least_slack : (m : Meaning) (d c : ℕ) → HeadroomIsLeastSlack m d c
 headroom_is_least_slack m d c ordered met after within =
     let t = m.clock in
     let bs = m.boundaries in
     let h = m.horizon in
-    let whole = headroom_is_room t bs h d ordered (omega arith) in
-    let none : short t bs ≤ 0 =
-    short_within t bs h 0 ordered (λ u lt uh. omega (arith, met u (omega arith) uh))
-    in (
-      λ fits u du uh.
-          omega (arith, room_suffices t bs h d c 0 ordered (omega arith) (omega arith) none u du uh),
-      λ slack.
-          omega
-          (arith, room_needed t bs h d c 0 ordered after within none (λ u du uh. omega (arith, slack u du uh))),
-    )
+    let whole = headroom_is_room t bs h d ordered in
+    let none = short_within t bs h 0 ordered in
+    let enough = room_suffices t bs h d c 0 ordered in
+    let needed = room_needed t bs h d c 0 ordered after within in
+    (λ fits u du uh. grind (arith, nat_tests), λ slack. grind (arith, nat_tests))
 
 -- the slot at the clock can be spared exactly when the first interval has one
 spare_means_slack_from :
     (t : ℕ) (bs : List Boundary) (h : ℕ) →
     SpareMeansSlack (record { clock = t; horizon = h; boundaries = bs })
-spare_means_slack_from t [] h ordered met before = let e = eqb-true t h ordered in absurd (omega arith)
+spare_means_slack_from t [] h ordered met before = absurd (grind (arith, nat_tests))
 spare_means_slack_from t (b ∷ bs) h ordered met before =
     let first = rises_first t b bs h ordered in
     let is = spare_is t b bs in
-    let none : short t (b ∷ bs) ≤ 0 =
-    short_within t (b ∷ bs) h 0 ordered (λ u lt uh. omega (arith, met u (omega arith) uh))
-    in
-    let no_more = room_none b.end bs h (t + 1) (rises_rest t b bs h ordered) (omega arith) in (
-      λ spare u du uh.
-          let sum : t + b.due + short b.end bs + 1 ≤ b.end = omega (arith, ints) in
-          omega (arith, room_suffices t (b ∷ bs) h (t + 1) 1 0 ordered (omega arith) (omega arith) none u du uh),
-      λ slack.
-          let needed =
-          room_needed t (b ∷ bs) h (t + 1) 1 0 ordered (omega arith) (omega arith) none
-          (λ u du uh. omega (arith, slack u du uh))
-          in
-          let sum : t + b.due + short b.end bs + 1 ≤ b.end = omega arith in
-          omega (arith, ints),
-    )
+    let none = short_within t (b ∷ bs) h 0 ordered in
+    let no_more = room_none b.end bs h (t + 1) (rises_rest t b bs h ordered) in
+    let enough = room_suffices t (b ∷ bs) h (t + 1) 1 0 ordered in
+    let needed = room_needed t (b ∷ bs) h (t + 1) 1 0 ordered in
+    (λ spare u du uh. grind (arith, nat_tests, ints), λ slack. grind (arith, nat_tests, ints))
 
 pub spare_means_slack : (m : Meaning) → SpareMeansSlack m
 spare_means_slack m = spare_means_slack_from m.clock m.boundaries m.horizon

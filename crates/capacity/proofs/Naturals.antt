@@ -1,9 +1,9 @@
 -- Spare capacity and headroom in natural numbers: what an interval lacks and what it has free, of which one is always 0.
-use Rattle.std.proofs.Common.{◌≡◌, ℕ, ◌+◌, ◌-◌, ◌<◌, ◌≤◌, min, true, ltb, List, [], ◌∷◌, ℤ, pos, negsuc, ◌+ℤ◌, ◌-ℤ◌, refl, ap, ◌∙◌, ⊎_elim, arith}
+use Rattle.std.proofs.Common.{◌≡◌, ℕ, ◌+◌, ◌-◌, ◌<◌, ◌≤◌, min, true, ltb, List, [], ◌∷◌, ℤ, pos, negsuc, ◌+ℤ◌, ◌-ℤ◌, refl, arith}
 use Rattle.std.proofs.lemmas.Bool.Decides.{nat_tests}
 use Rattle.std.specs.Int.{int_min}
 use Rattle.std.proofs.lemmas.Int.{ints, clamps}
-use Rattle.std.proofs.lemmas.Bool.{cases_lt, and_parts, ltb-true}
+use Rattle.std.proofs.lemmas.Bool.{and_parts, ltb-true}
 use Rattle.capacity.specs.declared.boundary.Boundary.{Boundary}
 use Rattle.capacity.specs.Spare.{first_spare, positive_part, headroom_from}
 use Rattle.capacity.specs.Shortage.{short}
@@ -31,14 +31,9 @@ pub positive_min_is :
     (z : ℤ) (x y d s : ℕ) → s ≤ d → z +ℤ pos y ≡ pos x →
     positive_part (int_min (pos d -ℤ pos s) z) ≡ min (d - s) (x - y)
 positive_min_is z x y d s le h =
-    ⊎_elim
-    (λ (lt : x + s < d + y).
-    let e : int_min (pos d -ℤ pos s) z ≡ z = omega (arith, ints, clamps) in
-    ap positive_part e ∙ positive_part_is z x y h ∙ omega arith)
-    (λ (ge : d + y ≤ x + s).
-    let e : int_min (pos d -ℤ pos s) z +ℤ pos s ≡ pos d = omega (arith, ints, clamps) in
-    positive_part_is (int_min (pos d -ℤ pos s) z) d s e ∙ omega arith)
-    (cases_lt (x + s) (d + y))
+    let own = positive_part_is z x y h in
+    let width = positive_part_is (pos d -ℤ pos s) d s in
+    grind (arith, ints, clamps)
 
 -- headroom, uniformly: of each interval what it has free, and no more than lies before d
 abbrev pub room : ℕ → List Boundary → ℕ → ℕ

@@ -1,7 +1,7 @@
 -- A slot that passes: whether the first boundary goes.
 use Rattle.std.proofs.Common.{◌≡◌, ℕ, ◌+◌, ◌<◌, ◌≤◌, true, List, [], ◌∷◌, length, get_or, refl, ap, arith}
 use Rattle.std.proofs.lemmas.Bool.Decides.{nat_tests}
-use Rattle.std.proofs.lemmas.Bool.{eqb-true, lt-ltb}
+use Rattle.std.proofs.lemmas.Bool.{eqb-true}
 use Rattle.capacity.specs.declared.boundary.Boundary.{Boundary}
 use Rattle.capacity.specs.Calls.{later_than}
 use Rattle.capacity.specs.Noted.{first_end}
@@ -22,8 +22,7 @@ later_stays s [] h b r read past = refl
 later_stays s (x ∷ bs) h b r read past =
     let first = rises_first s x bs h r in
     let is = ap (λ y. y.end) read in
-    let lt : s + 1 < x.end = omega (arith, past) in
-    rw (lt-ltb (s + 1) x.end lt) refl
+    grind (arith, nat_tests)
 
 -- while an interval is left, the start matters not to where it ends
 pub first_end_of : (s t : ℕ) (bs : List Boundary) → 0 < length bs → first_end s bs ≡ first_end t bs
