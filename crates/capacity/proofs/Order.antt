@@ -1,7 +1,7 @@
 -- From `clear` on the boundaries rise from the clock to the horizon, whatever is called.
 use Rattle.std.proofs.Common.{◌≡◌, ℕ, ◌+◌, ◌-◌, true, List, [], Some, None, Option, refl, arith}
-use Rattle.std.proofs.lemmas.Bool.Decides.{nat_tests}
 use Rattle.std.proofs.lemmas.Bool.{eq-eqb}
+use Rattle.std.proofs.lemmas.Bool.Decides.{nat_tests}
 use Rattle.capacity.specs.declared.boundary.Boundary.{Boundary}
 use Rattle.capacity.specs.Calls.{due_at, served, cut_leaves, owe_leaves, forgive_leaves, run_leaves}
 use Rattle.capacity.specs.Meaning.{Meaning}
