@@ -1,14 +1,15 @@
 -- A slot has one owner: so where a schedule keeps the guarantees, what must lie in a window is no more than its slots.
 use Rattle.std.proofs.Common.{◌≡◌, ℕ, zero, suc, ◌+◌, ◌-◌, ◌<◌, ◌≤◌, max, true, false, cond, ◌&&◌, eqb, leb, List, [], ◌∷◌, ◌++◌, sum_by, Option, sym, refl, ap, ⊎_elim, arith}
+use Rattle.std.proofs.lemmas.Bool.Decides.{nat_tests}
 use Rattle.std.specs.List.{IsDistinct, AllByRecursion}
 use Rattle.std.proofs.ByRecursion.{All-weaker}
 use Rattle.std.proofs.lemmas.List.Sums.{sum_by-cons}
 use Rattle.std.proofs.lemmas.Map.Keys.{IsDistinct-head, IsDistinct-tail}
-use Rattle.std.proofs.lemmas.Bool.{cases_lt, cases_Bool, and_parts, leb-true, le-leb, lt-leb, ne_eqb, eqb-false}
+use Rattle.std.proofs.lemmas.Bool.{cases_lt, le-leb, lt-leb, ne_eqb, eqb-false}
 use Rattle.schedule.specs.declared.job.Job.{Job}
 use Rattle.schedule.specs.Schedules.{Commitments, WellFormed, Schedule, Keeps, GetsItsDemand, went_to, went_to_any, one_if, slots, given, job_numbers, order_numbers}
 use Rattle.schedule.specs.Slot.{due_by, SoftWithinSlack}
-use Rattle.schedule.specs.Windows.{lies_in, need, demand, NoWindowOverfull}
+use Rattle.schedule.specs.Windows.{need, demand, NoWindowOverfull}
 use Rattle.schedule.proofs.Slots.{owner_is, slots_grow, slots_inside}
 use Rattle.schedule.proofs.Totals.{sums_le, sums_add, sums_map, sums_none, all_of, all_left, all_right}
 
@@ -27,29 +28,21 @@ none_of n (m ∷ ms) owner to differ = rw (not_other n m owner to differ.0) (non
 one_owner :
     (ns ms : List ℕ) (owner : Option ℕ) → IsDistinct eqb (ns ++ ms) →
     sum_by (λ n. one_if (went_to n owner)) ns + one_if (went_to_any ms owner) ≤ 1
-one_owner [] ms owner distinct =
-    ⊎_elim
-    (λ (yes : went_to_any ms owner ≡ true). rw yes (omega arith))
-    (λ (no : went_to_any ms owner ≡ false). rw no (omega arith))
-    (cases_Bool (went_to_any ms owner))
+one_owner [] ms owner distinct = grind (arith, nat_tests)
 one_owner (n ∷ ns) ms owner distinct =
     let differ = IsDistinct-head eqb n (ns ++ ms) distinct in
     let rest = one_owner ns ms owner (IsDistinct-tail eqb n (ns ++ ms) distinct) in
     let sum = sum_by-cons (λ m. one_if (went_to m owner)) n ns in
-    ⊎_elim
-    (λ (to : went_to n owner ≡ true).
-    let others : sum_by (λ m. one_if (went_to m owner)) ns ≡ 0 =
+    let others : went_to n owner ≡ true → sum_by (λ m. one_if (went_to m owner)) ns ≡ 0 =
+    λ to.
     sums_none (λ m. one_if (went_to m owner)) ns
     (All-weaker (λ m. eqb n m ≡ false) (λ m. one_if (went_to m owner) ≡ 0) (λ m differs. ap one_if (not_other n m owner to differs)) ns
     (all_left (λ m. eqb n m ≡ false) ns ms differ))
     in
-    let soft : one_if (went_to_any ms owner) ≡ 0 = ap one_if (none_of n ms owner to (all_right (λ m. eqb n m ≡ false) ns ms differ)) in
-    let here : one_if (went_to n owner) ≡ 1 = ap one_if to in
-    omega (arith, sum))
-    (λ (not : went_to n owner ≡ false).
-    let here : one_if (went_to n owner) ≡ 0 = ap one_if not in
-    omega (arith, sum))
-    (cases_Bool (went_to n owner))
+    let soft : went_to n owner ≡ true → went_to_any ms owner ≡ false =
+    λ to. none_of n ms owner to (all_right (λ m. eqb n m ≡ false) ns ms differ)
+    in
+    grind (arith, nat_tests)
 
 -- so distinct numbers share the slots of a stretch
 pub slots_shared :
@@ -61,15 +54,11 @@ slots_shared s ns ms a zero distinct =
 slots_shared s ns ms a (suc b) distinct =
     let rest = slots_shared s ns ms a b distinct in
     let split = sums_add (λ n. given s n a b) (λ n. one_if (leb a b && went_to n (s b))) ns in
-    ⊎_elim
-    (λ (lt : b < a).
-    let now = rw (lt-leb a b lt) at split in
     let none = sums_none (λ n. one_if false) ns (all_of (λ n. one_if false ≡ 0) (λ _. refl) ns) in
-    rw (lt-leb a b lt) (omega arith))
-    (λ (ge : a ≤ b).
-    let now = rw (le-leb a b ge) at split in
     let one = one_owner ns ms (s b) distinct in
-    rw (le-leb a b ge) (omega arith))
+    ⊎_elim
+    (λ (lt : b < a). let now = rw (lt-leb a b lt) at split in rw (lt-leb a b lt) (omega arith))
+    (λ (ge : a ≤ b). let now = rw (le-leb a b ge) at split in rw (le-leb a b ge) (omega arith))
     (cases_lt b a)
 
 -- a job that must lie in a window, and gets its demand, gets it there
@@ -77,26 +66,15 @@ need_met :
     (s : Schedule) (t h a b : ℕ) (j : Job) → t ≤ a → (1 ≤ j.left → GetsItsDemand s t h j) →
     need t a b j ≤ given s j.number a b
 need_met s t h a b j ta gets =
-    ⊎_elim
-    (λ (in_window : lies_in t a b j ≡ true).
-    let parts = and_parts (leb a (max j.release t)) (leb j.deadline b) in_window in
-    let from = leb-true a (max j.release t) parts.0 in
-    let upto = leb-true j.deadline b parts.1 in
-    rw in_window
-    (⊎_elim
-    (λ (some : 0 < j.left).
-    let met = gets some in
     let inside =
+    λ (some : 1 ≤ j.left) (from : a ≤ max j.release t) (upto : j.deadline ≤ b).
     slots_inside (λ u. went_to j.number (s u)) t h a b ta
     (λ u tu uh to.
-    let w = met.1 u tu uh (owner_is j.number (s u) to) in
+    let w = (gets some).1 u tu uh (owner_is j.number (s u) to) in
     (omega (arith, w.0), omega (arith, w.1)))
     in
-    omega (arith, met.0))
-    (λ (none : j.left ≤ 0). omega arith)
-    (cases_lt 0 j.left)))
-    (λ (outside : lies_in t a b j ≡ false). rw outside (omega arith))
-    (cases_Bool (lies_in t a b j))
+    let met = λ (some : 1 ≤ j.left). (gets some).0 in
+    grind (arith, nat_tests)
 
 -- what must lie in a window, and the slots there that go to waiting orders, are no more than its slots
 pub window_shared :
@@ -122,10 +100,7 @@ pub due_by_is : (t : ℕ) (js : List Job) (b : ℕ) → due_by js b ≡ demand t
 due_by_is t [] b = refl
 due_by_is t (j ∷ js) b =
     let rest = due_by_is t js b in
-    let from = le-leb t (max j.release t) (omega arith) in
-    let same : need t t b j ≡ cond (leb j.deadline b) j.left 0 = rw from refl in
-    omega
-    (arith, sum_by-cons (need t t b) j js, sum_by-cons (λ (k : Job). cond (leb k.deadline b) k.left 0) j js)
+    grind (arith, nat_tests, sum_by-cons (need t t b) j js, sum_by-cons (λ (k : Job). cond (leb k.deadline b) k.left 0) j js)
 
 pub soft_within_slack : (c : Commitments) → SoftWithinSlack c
 soft_within_slack c formed s keeps u b ub tb =

@@ -1,6 +1,7 @@
 -- Counting slots.
-use Rattle.std.proofs.Common.{◌≡◌, ℕ, zero, suc, ◌+◌, ◌<◌, ◌≤◌, Bool, true, false, Some, None, Option, sym, refl, ap, ⊎_elim, arith}
-use Rattle.std.proofs.lemmas.Bool.{cases_lt, cases_Bool, eqb-true, eq-eqb, le-leb, lt-leb}
+use Rattle.std.proofs.Common.{◌≡◌, ℕ, zero, suc, ◌+◌, ◌<◌, ◌≤◌, Bool, true, Some, None, Option, sym, refl, ap, arith}
+use Rattle.std.proofs.lemmas.Bool.Decides.{nat_tests}
+use Rattle.std.proofs.lemmas.Bool.{eqb-true, eq-eqb, le-leb, lt-leb}
 use Rattle.schedule.specs.Schedules.{went_to, one_if, slots}
 
 -- the owner that a slot went to
@@ -21,16 +22,15 @@ slots_before p a b lt = rw (lt-leb a b lt) (omega arith)
 -- no slot lies from a on and before b where b is not behind a
 pub slots_none : (p : ℕ → Bool) (a b : ℕ) → b ≤ a → slots p a b ≡ 0
 slots_none p a zero le = refl
-slots_none p a (suc b) le = let rest = slots_none p a b (omega arith) in omega (arith, slots_before p a b (omega arith))
+slots_none p a (suc b) le = let rest = slots_none p a b in grind (arith, nat_tests)
 
 -- a longer stretch has no fewer
 pub slots_grow : (p : ℕ → Bool) (a b h : ℕ) → b ≤ h → slots p a b ≤ slots p a h
 slots_grow p a b zero le = let none : b ≡ 0 = omega arith in rw none (omega arith)
 slots_grow p a b (suc h) le =
-    ⊎_elim
-    (λ (lt : b < suc h). let rest = slots_grow p a b h (omega arith) in omega arith)
-    (λ (ge : suc h ≤ b). let same : b ≡ suc h = omega arith in rw same (omega arith))
-    (cases_lt b (suc h))
+    let rest = slots_grow p a b h in
+    let last : b ≡ suc h → slots p a b ≡ slots p a (suc h) = ap (slots p a) in
+    grind (arith, nat_tests)
 
 -- a later first slot loses none if all that count lie behind it
 pub slots_from :
@@ -38,39 +38,18 @@ pub slots_from :
 slots_from p t a zero inside = omega arith
 slots_from p t a (suc h) inside =
     let rest = slots_from p t a h (λ u tu uh counts. inside u tu (omega arith) counts) in
-    ⊎_elim
-    (λ (lt : h < t). omega (arith, slots_before p t h lt))
-    (λ (ge : t ≤ h).
-    ⊎_elim
-    (λ (counts : p h ≡ true).
-    let behind = inside h ge (omega arith) counts in
-    omega (arith, slots_more p t h ge, slots_more p a h behind))
-    (λ (not : p h ≡ false).
-    let none : one_if (p h) ≡ 0 = rw not refl in
-    omega (arith, slots_more p t h ge))
-    (cases_Bool (p h)))
-    (cases_lt h t)
+    let here = inside h in
+    grind (arith, nat_tests)
 
 -- an earlier end loses none if all that count lie before it
 pub slots_upto :
     (p : ℕ → Bool) (a b h : ℕ) → ((u : ℕ) → a ≤ u → u < h → p u ≡ true → u < b) → slots p a h ≤ slots p a b
 slots_upto p a b zero inside = omega arith
 slots_upto p a b (suc h) inside =
-    ⊎_elim
-    (λ (lt : h < b). slots_grow p a (suc h) b (omega arith))
-    (λ (ge : b ≤ h).
     let rest = slots_upto p a b h (λ u au uh counts. inside u au (omega arith) counts) in
-    ⊎_elim
-    (λ (lt : h < a). omega (arith, slots_before p a h lt))
-    (λ (from : a ≤ h).
-    ⊎_elim
-    (λ (counts : p h ≡ true). absurd (omega (arith, inside h from (omega arith) counts)))
-    (λ (not : p h ≡ false).
-    let none : one_if (p h) ≡ 0 = rw not refl in
-    omega (arith, slots_more p a h from))
-    (cases_Bool (p h)))
-    (cases_lt h a))
-    (cases_lt h b)
+    let grow = slots_grow p a (suc h) b in
+    let here = inside h in
+    grind (arith, nat_tests)
 
 -- all the slots that count in a stretch lie in another
 pub slots_inside :
@@ -85,21 +64,10 @@ slots_inside p t h a b ta inside =
 pub slots_first : (p : ℕ → Bool) (t h : ℕ) → t < h → slots p t h ≡ one_if (p t) + slots p (t + 1) h
 slots_first p t zero lt = absurd (omega arith)
 slots_first p t (suc h) lt =
-    ⊎_elim
-    (λ (before : t < h).
-    let rest = slots_first p t h before in
-    omega (arith, slots_more p t h (omega arith), slots_more p (t + 1) h (omega arith)))
-    (λ (here : h ≤ t).
-    let same : h ≡ t = omega arith in
-    let now : one_if (p h) ≡ one_if (p t) = rw same refl in
-    omega (
-      arith,
-      slots_more p t h (omega arith),
-      slots_before p (t + 1) h (omega arith),
-      slots_none p t h (omega arith),
-      slots_none p (t + 1) h (omega arith),
-    ))
-    (cases_lt t h)
+    let rest = slots_first p t h in
+    let none = slots_none p t h in
+    let none_later = slots_none p (t + 1) h in
+    grind (arith, nat_tests)
 
 -- tests that agree count the same slots
 pub slots_same :
@@ -107,9 +75,5 @@ pub slots_same :
 slots_same p q t zero same = refl
 slots_same p q t (suc h) same =
     let rest = slots_same p q t h same in
-    ⊎_elim
-    (λ (lt : h < t). omega (arith, slots_before p t h lt, slots_before q t h lt))
-    (λ (ge : t ≤ h).
-    let now : one_if (p h) ≡ one_if (q h) = rw (same h ge) refl in
-    omega (arith, slots_more p t h ge, slots_more q t h ge))
-    (cases_lt h t)
+    let here = same h in
+    grind (arith, nat_tests)
