@@ -4,7 +4,8 @@ use Rattle.std.specs.List.{IsDistinct, ContainsAt as Has, AllByRecursion}
 use Rattle.std.proofs.ByRecursion.{All-weaker, All-map, all-has, all_has_itself}
 use Rattle.std.proofs.lemmas.List.Sums.{get_or-le-sum_by}
 use Rattle.std.proofs.lemmas.Map.Keys.{IsDistinct-head, IsDistinct-tail}
-use Rattle.std.proofs.lemmas.Bool.{cases_lt, cases_Bool, eqb-true, eqb-false, ne_eqb, le-leb}
+use Rattle.std.proofs.lemmas.Bool.{cases_lt, eqb-true, eqb-false, ne_eqb}
+use Rattle.std.proofs.lemmas.Bool.Decides.{nat_tests}
 use Rattle.schedule.specs.declared.job.Job.{Job}
 use Rattle.schedule.specs.declared.soft.SoftOrder.{SoftOrder}
 use Rattle.schedule.specs.Earliest.{EarliestOwner, jobs_at, EarliestFirstKeeps}
@@ -21,22 +22,15 @@ pub left_fits :
     max j.release t + j.left ≤ j.deadline
 left_fits t js j has fits some =
     let inside : (a b : ℕ) → a ≤ max j.release t → j.deadline ≤ b → j.left ≤ demand t js a b =
-    λ a b from upto.
-    let term = get_or-le-sum_by (need t a b) js has.0 j has.1 in
-    let own = rw (has.2 j) at term in
-    rw (le-leb a (max j.release t) from, le-leb j.deadline b upto) at own
+    λ a b from upto. let term = rw (has.2 j) at (get_or-le-sum_by (need t a b) js has.0 j has.1) in grind (arith, nat_tests)
     in
-    ⊎_elim
-    (λ (short : j.deadline < max j.release t).
+    let start = max j.release t in
     let end = max j.deadline t in
-    absurd (omega (arith, inside end end (omega arith) (omega arith), fits end end (omega arith) (omega arith))))
-    (λ (long : max j.release t ≤ j.deadline).
-    omega (
-      arith,
-      inside (max j.release t) j.deadline (omega arith) (omega arith),
-      fits (max j.release t) j.deadline (omega arith) long,
-    ))
-    (cases_lt j.deadline (max j.release t))
+    let short = inside end end in
+    let long = inside start j.deadline in
+    let fits_short = fits end end in
+    let fits_long = fits start j.deadline in
+    grind (arith, nat_tests)
 
 -- no later job has the number of an earlier one
 apart :
@@ -120,8 +114,7 @@ jobs_at_clock s t [] = refl
 jobs_at_clock s t (j ∷ js) =
     let none = slots_none (λ u. went_to j.number (s u)) t t (omega arith) in
     let same : j.left - given s j.number t t ≡ j.left = omega arith in
-    let first : with_left j (j.left - given s j.number t t) ≡ j = ap (with_left j) same in
-    rw (first, jobs_at_clock s t js) refl
+    rw (same, jobs_at_clock s t js) refl
 
 -- and later they are what the first slot and then the others left
 jobs_at_later :
@@ -152,13 +145,8 @@ served_at_end s t h js ms end due fits = (
   all_both (λ j. j.deadline ≤ h) (Has js) (GetsItsDemand s t h)
       (λ j by has.
       let none = slots_none (λ u. went_to j.number (s u)) t h end in
-      let left : j.left ≤ 0 =
-      ⊎_elim
-      (λ (some : 0 < j.left). absurd (omega (arith, left_fits t js j has fits some)))
-      (λ (done : j.left ≤ 0). done)
-      (cases_lt 0 j.left)
-      in
-      (omega arith, λ u tu uh _. absurd (omega arith)))
+      let some = left_fits t js j has fits in
+      (grind (arith, nat_tests), λ u tu uh _. absurd (omega arith)))
       js due (all_has_itself js),
   all_of _ (λ m. slots_none (λ u. went_to m (s u)) t h end) ms,
 )
@@ -186,13 +174,8 @@ served_from s t h js ms lt rightful served = (
         GetsItsDemand s t h k
     gets k can later =
         let first = slots_first (λ u. went_to k.number (s u)) t h lt in
-        let some : one_if (went_to k.number (s t)) ≤ k.left =
-        ⊎_elim
-        (λ (to : went_to k.number (s t) ≡ true). rw to (omega (arith, (can to).0.1)))
-        (λ (not : went_to k.number (s t) ≡ false). rw not (omega arith))
-        (cases_Bool (went_to k.number (s t)))
-        in (
-          omega (arith, later.0),
+        let some = λ (to : went_to k.number (s t) ≡ true). (can to).0.1 in (
+          grind (arith, nat_tests, later.0),
           λ u tu uh is.
               ⊎_elim
               (λ (after : t < u). later.1 u (omega arith) uh is)

@@ -1,8 +1,8 @@
 -- One slot: to whom it can go so that no window is overfull afterwards.
-use Rattle.std.proofs.Common.{◌≡◌, ℕ, ◌+◌, ◌<◌, ◌≤◌, max, cond, leb, ◌⊎◌, List, [], ◌∷◌, Some, None, Option, sym, refl, ◌∙◌, inl, inr, ⊎_elim, arith}
+use Rattle.std.proofs.Common.{◌≡◌, ℕ, ◌+◌, ◌<◌, ◌≤◌, cond, leb, ◌⊎◌, List, [], ◌∷◌, Some, None, Option, ap, inl, inr, ⊎_elim, arith}
 use Rattle.std.specs.List.{ContainsAt as Has, AllByRecursion}
 use Rattle.std.proofs.ByRecursion.{All-weaker}
-use Rattle.std.proofs.lemmas.Bool.{cases_lt, eq-eqb, le-leb, lt-leb}
+use Rattle.std.proofs.lemmas.Bool.{cases_lt}
 use Rattle.std.proofs.lemmas.Bool.Decides.{nat_tests}
 use Rattle.schedule.specs.declared.job.Job.{Job}
 use Rattle.schedule.specs.Schedules.{Commitments}
@@ -41,9 +41,7 @@ due_by_served :
 due_by_served js j b has left due =
     let owner = Some j.number in
     let mapped = sums_map (due_job b) (job_after owner) js in
-    let own : due_job b (job_after owner j) + 1 ≤ due_job b j =
-    rw (eq-eqb j.number j.number refl) (rw (le-leb j.deadline b due) (omega arith))
-    in
+    let own : due_job b (job_after owner j) + 1 ≤ due_job b j = grind (arith, nat_tests) in
     let less =
     sums_less (λ k. due_job b (job_after owner k)) (due_job b) js j has own (all_of _ (λ k. grind (arith, nat_tests)) js)
     in
@@ -58,35 +56,8 @@ none_ready_by t js b none =
   where
     released_later : (j : Job) → (Ready t j → b < j.deadline) → due_job b j ≤ need t (t + 1) b j
     released_later j late =
-        ⊎_elim
-        (λ (lt : b < j.deadline). rw (lt-leb j.deadline b lt) (omega arith))
-        (λ (due : j.deadline ≤ b).
-        ⊎_elim
-        (λ (after : t < j.release).
-        rw (le-leb j.deadline b due, le-leb (t + 1) (max j.release t) (omega arith)) (omega arith))
-        (λ (before : j.release ≤ t).
-        ⊎_elim
-        (λ (some : 0 < j.left). absurd (omega (arith, late (before, some))))
-        (λ (done : j.left ≤ 0).
-        let none : j.left ≡ 0 = omega arith in
-        rw (le-leb j.deadline b due) (omega arith))
-        (cases_lt 0 j.left))
-        (cases_lt t j.release))
-        (cases_lt b j.deadline)
-
--- what must lie in a window that begins after the next slot does not grow
-need_later :
-    (t : ℕ) (owner : Option ℕ) (a b : ℕ) (j : Job) → t + 1 < a → need (t + 1) a b (job_after owner j) ≤ need t a b j
-need_later t owner a b j later =
-    let same : leb a (max j.release (t + 1)) ≡ leb a (max j.release t) =
-    ⊎_elim
-    (λ (before : j.release < a).
-    lt-leb a (max j.release (t + 1)) (omega arith) ∙ sym (lt-leb a (max j.release t) (omega arith)))
-    (λ (from : a ≤ j.release).
-    le-leb a (max j.release (t + 1)) (omega arith) ∙ sym (le-leb a (max j.release t) (omega arith)))
-    (cases_lt j.release a)
-    in
-    rw same (grind (arith, nat_tests))
+        let ready = λ (released : j.release ≤ t) (some : 1 ≤ j.left). late (released, some) in
+        grind (arith, nat_tests)
 
 -- no window is overfull at the next clock if what is due by then fits
 fits_after :
@@ -94,36 +65,36 @@ fits_after :
     ((b : ℕ) → t + 1 ≤ b → due_by (jobs_after owner js) b + (t + 1) ≤ b) →
     FitsAfter t js owner
 fits_after t js owner fits due a b ta ab =
-    ⊎_elim
-    (λ (later : t + 1 < a).
     let mapped = sums_map (need (t + 1) a b) (job_after owner) js in
     let le =
+    λ (later : t + 1 < a).
     sums_le (λ j. need (t + 1) a b (job_after owner j)) (need t a b) js
-    (all_of _ (λ j. need_later t owner a b j later) js)
+    (all_of _ (λ j. grind (arith, nat_tests)) js)
     in
-    omega (arith, fits a b (omega arith) ab))
-    (λ (now : a ≤ t + 1).
-    let same : a ≡ t + 1 = omega arith in
+    let before = fits a b in
+    let now = due b in
     let is = due_by_is (t + 1) (jobs_after owner js) b in
-    rw same (omega (arith, due b (omega arith))))
-    (cases_lt (t + 1) a)
+    let same : a ≡ t + 1 → demand (t + 1) (jobs_after owner js) a b ≡ demand (t + 1) (jobs_after owner js) (t + 1) b =
+    ap (λ x. demand (t + 1) (jobs_after owner js) x b)
+    in
+    grind (arith, nat_tests)
 
 pub slot_for_due_first : (t : ℕ) (js : List Job) → SlotForDueFirst t js
 slot_for_due_first t js j first fits =
     fits_after t js (Some j.number) fits
     (λ b tb.
-    ⊎_elim
-    (λ (before : b < j.deadline).
+    let falls = due_by_falls js (Some j.number) b in
     let late =
+    λ (before : b < j.deadline).
     none_ready_by t js b
     (All-weaker (λ k. Ready t k → j.deadline ≤ k.deadline) (λ k. Ready t k → b < k.deadline)
     (λ k due ready. omega (arith, due ready)) js first.2)
     in
-    omega (arith, due_by_falls js (Some j.number) b, fits (t + 1) b (omega arith) tb))
-    (λ (due : j.deadline ≤ b).
-    let served = due_by_served js j b first.0 first.1.1 due in
-    omega (arith, due_by_is t js b, fits t b (omega arith) (omega arith)))
-    (cases_lt b j.deadline))
+    let served = due_by_served js j b first.0 first.1.1 in
+    let is = due_by_is t js b in
+    let now = fits t b in
+    let later = fits (t + 1) b in
+    grind (arith, nat_tests))
 
 pub slot_while_none_ready : (t : ℕ) (js : List Job) → SlotWhileNoneReady t js
 slot_while_none_ready t js none fits =
@@ -140,16 +111,15 @@ slot_while_slack c formed before slack fits owner =
     fits_after c.clock c.jobs owner fits
     (λ b tb.
     let falls = due_by_falls c.jobs owner b in
-    ⊎_elim
-    (λ (behind : c.horizon < b).
-    let all-due =
+    let all_due =
+    λ (behind : c.horizon < b).
     sums_le (due_job b) (due_job c.horizon) c.jobs
-    (All-weaker (λ j. j.deadline ≤ c.horizon) (λ j. due_job b j ≤ due_job c.horizon j)
-    (λ j due. rw (le-leb j.deadline c.horizon due) (grind (arith, nat_tests))) c.jobs formed.1)
+    (All-weaker (λ j. j.deadline ≤ c.horizon) (λ j. due_job b j ≤ due_job c.horizon j) (λ j due. grind (arith, nat_tests))
+    c.jobs formed.1)
     in
-    omega (arith, slack c.horizon before (omega arith)))
-    (λ (within : b ≤ c.horizon). omega (arith, slack b (omega arith) within))
-    (cases_lt c.horizon b))
+    let here = slack b in
+    let end = slack c.horizon in
+    grind (arith, nat_tests))
 
 -- a ready job due by e, or none is
 ready_by :

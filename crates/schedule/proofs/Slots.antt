@@ -1,7 +1,7 @@
 -- Counting slots.
 use Rattle.std.proofs.Common.{◌≡◌, ℕ, zero, suc, ◌+◌, ◌<◌, ◌≤◌, Bool, true, Some, None, Option, sym, refl, ap, arith}
+use Rattle.std.proofs.lemmas.Bool.{eqb-true, eq-eqb}
 use Rattle.std.proofs.lemmas.Bool.Decides.{nat_tests}
-use Rattle.std.proofs.lemmas.Bool.{eqb-true, eq-eqb, le-leb, lt-leb}
 use Rattle.schedule.specs.Schedules.{went_to, one_if, slots}
 
 -- the owner that a slot went to
@@ -11,13 +11,6 @@ owner_is n (Some m) went = ap Some (sym (eqb-true n m went))
 
 pub went : (n : ℕ) (owner : Option ℕ) → owner ≡ Some n → went_to n owner ≡ true
 went n owner is = rw is (eq-eqb n n refl)
-
--- the next slot counts, or does not
-slots_more : (p : ℕ → Bool) (a b : ℕ) → a ≤ b → slots p a (suc b) ≡ slots p a b + one_if (p b)
-slots_more p a b le = rw (le-leb a b le) refl
-
-slots_before : (p : ℕ → Bool) (a b : ℕ) → b < a → slots p a (suc b) ≡ slots p a b
-slots_before p a b lt = rw (lt-leb a b lt) (omega arith)
 
 -- no slot lies from a on and before b where b is not behind a
 pub slots_none : (p : ℕ → Bool) (a b : ℕ) → b ≤ a → slots p a b ≡ 0
@@ -67,13 +60,4 @@ slots_first p t (suc h) lt =
     let rest = slots_first p t h in
     let none = slots_none p t h in
     let none_later = slots_none p (t + 1) h in
-    grind (arith, nat_tests)
-
--- tests that agree count the same slots
-pub slots_same :
-    (p q : ℕ → Bool) (t h : ℕ) → ((u : ℕ) → t ≤ u → p u ≡ q u) → slots p t h ≡ slots q t h
-slots_same p q t zero same = refl
-slots_same p q t (suc h) same =
-    let rest = slots_same p q t h same in
-    let here = same h in
     grind (arith, nat_tests)
