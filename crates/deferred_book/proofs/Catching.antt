@@ -1,14 +1,13 @@
 -- Catching up with noted slots.
 use Rattle.std.proofs.Common.{◌≡◌, ℕ, ◌+◌, ◌-◌, ◌<◌, ◌≤◌, true, List, [], ◌∷◌, length, replicate, Some, None, Ok, Err, Result, sym, refl, arith}
+use Rattle.std.proofs.lemmas.Bool.Decides.{nat_tests}
 use Rattle.std.specs.Result.{IsOk}
-use Rattle.std.proofs.lemmas.Bool.{lt-ltb, le-leb, eqb-true}
 use Rattle.capacity.specs.declared.boundary.Boundary.{Boundary}
 use Rattle.capacity.specs.Calls.{later_than, passed, with_due, due_at}
 use Rattle.capacity.specs.Meaning.{Meaning}
 use Rattle.capacity.specs.Noted.{unserved, caught_up, first_end, catch_up_says}
 use Rattle.capacity.specs.Places.{Stands}
 use Rattle.capacity.specs.Slack.{rises, Ordered}
-use Rattle.capacity.proofs.Naturals.{rises_first}
 use Rattle.capacity.proofs.Noted.{rises_unserved}
 use Rattle.terms.specs.Answers.{said}
 use Rattle.terms.specs.declared.refusal.Refusal.{Refusal}
@@ -18,7 +17,7 @@ use Rattle.deferred_book.proofs.Unserved.{unserved_none, unserved_raised, one_le
 -- no boundary goes before the first interval ends
 pub later_all : (t : ℕ) (bs : List Boundary) (h : ℕ) → rises t bs h ≡ true → later_than t bs ≡ bs
 later_all t [] h r = refl
-later_all t (b ∷ bs) h r = let first = rises_first t b bs h r in rw (lt-ltb t b.end first) refl
+later_all t (b ∷ bs) h r = grind (arith, nat_tests)
 
 -- slots that end before the first interval does drop no boundary
 pub caught_up_boundaries :
@@ -62,8 +61,8 @@ noted_for_nobody m slots ns r =
 -- slots that end before the first interval does are caught up with
 within_first :
     (s t : ℕ) (bs : List Boundary) (h : ℕ) → rises s bs h ≡ true → rises t bs h ≡ true → t ≤ first_end s bs
-within_first s t [] h ordered r = omega (arith, eqb-true s h ordered, eqb-true t h r)
-within_first s t (b ∷ bs) h ordered r = let first = rises_first t b bs h r in omega arith
+within_first s t [] h ordered r = grind (arith, nat_tests)
+within_first s t (b ∷ bs) h ordered r = grind (arith, nat_tests)
 
 pub catches_up :
     (m : Meaning) (slots : ℕ) (r : Result (Unit {0}) Refusal) → Ordered m →
@@ -72,5 +71,5 @@ pub catches_up :
     IsOk r
 catches_up m slots (Ok x) ordered r says = refl
 catches_up m slots (Err e) ordered r says =
-    let t = m.clock + slots in
-    let wrong = rw (le-leb t _ (within_first m.clock t m.boundaries m.horizon ordered r)) at says in cc
+    let within = within_first m.clock (m.clock + slots) m.boundaries m.horizon ordered r in
+    grind (arith, nat_tests)

@@ -34,11 +34,7 @@ use Rattle.deferred_book.proofs.Unserved.{unserved_boundary}
 pub clock_within : (b : DeferredBook) → (deferred_meaning b).clock ≤ longest_horizon
 clock_within b =
     let m = slot_meaning b.settled in
-    omega (
-      arith,
-      rises_le (m.clock + b.notes.slots) m.boundaries m.horizon b.within,
-      book_ranged b.settled,
-    )
+    omega (arith, rises_le (m.clock + b.notes.slots) m.boundaries m.horizon b.within, book_ranged b.settled)
 
 -- its boundaries are those of the settled book, with less due
 pub boundaries_are :

@@ -1,5 +1,5 @@
 -- What the notes say that each boundary got.
-use Rattle.std.proofs.Common.{◌≡◌, ℕ, zero, suc, ◌+◌, ◌-◌, ◌≤◌, List, [], ◌∷◌, length, get_or, replicate, Some, None, Option, refl, ap, arith}
+use Rattle.std.proofs.Common.{◌≡◌, ℕ, zero, suc, ◌+◌, ◌≤◌, List, [], ◌∷◌, length, get_or, replicate, Some, None, Option, refl, arith}
 use Rattle.deferred_book.specs.Noting.{served_of, raised, noting}
 
 pub served_length : (slots : ℕ) (ns : List ℕ) → length (served_of slots ns) ≡ length ns
@@ -23,12 +23,9 @@ pub served_more :
 served_more slots [] None le = refl
 served_more slots [] (Some zero) le = refl
 served_more slots [] (Some (suc k)) le = refl
-served_more slots (n ∷ ns) None le =
-    let e : slots + 1 - (n + 1) ≡ slots - n = omega arith in ap (λ x. x ∷ ns) e
-served_more slots (n ∷ ns) (Some zero) le =
-    let e : slots + 1 - n ≡ slots - n + 1 = omega arith in ap (λ x. x ∷ ns) e
-served_more slots (n ∷ ns) (Some (suc k)) le =
-    let e : slots + 1 - (n + 1) ≡ slots - n = omega arith in ap (λ x. x ∷ raised ns k) e
+served_more slots (n ∷ ns) None le = grind arith
+served_more slots (n ∷ ns) (Some zero) le = grind arith
+served_more slots (n ∷ ns) (Some (suc k)) le = grind arith
 
 -- a note of nothing counts no slot
 pub none_counted : (n k : ℕ) → get_or (replicate n 0) k 0 ≤ 0

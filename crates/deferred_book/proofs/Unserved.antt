@@ -1,5 +1,5 @@
 -- Slots given to boundaries in order, one more or none.
-use Rattle.std.proofs.Common.{◌≡◌, ℕ, zero, suc, ◌+◌, ◌-◌, ◌<◌, ◌||◌, eqb, List, [], ◌∷◌, length, set, replicate, refl, ap, arith}
+use Rattle.std.proofs.Common.{◌≡◌, ℕ, zero, suc, ◌-◌, ◌<◌, ◌||◌, eqb, List, [], ◌∷◌, length, set, replicate, refl, ap, arith}
 use Rattle.capacity.specs.declared.boundary.Boundary.{Boundary}
 use Rattle.capacity.specs.Calls.{is_boundary}
 use Rattle.capacity.specs.Intervals.{boundary_at}
@@ -15,9 +15,7 @@ unserved_boundary (b ∷ bs) (n ∷ ns) d = ap (λ r. eqb b.end d || r) (unserve
 pub unserved_none : (bs : List Boundary) (n : ℕ) → unserved bs (replicate n 0) ≡ bs
 unserved_none [] n = refl
 unserved_none (b ∷ bs) zero = refl
-unserved_none (b ∷ bs) (suc n) =
-    let e : b.due - 0 ≡ b.due = omega arith in
-    rw (e, unserved_none bs n) refl
+unserved_none (b ∷ bs) (suc n) = let rest = unserved_none bs n in grind arith
 
 -- the boundary at a place with one slot less due
 abbrev pub one_less : List Boundary → ℕ → List Boundary
@@ -28,8 +26,5 @@ pub unserved_raised :
     (bs : List Boundary) (ns : List ℕ) (k : ℕ) → k < length ns → unserved bs (raised ns k) ≡ one_less (unserved bs ns) k
 unserved_raised [] ns k lt = refl
 unserved_raised (b ∷ bs) [] k lt = absurd (omega arith)
-unserved_raised (b ∷ bs) (n ∷ ns) zero lt =
-    let e : b.due - (n + 1) ≡ b.due - n - 1 = omega arith in
-    ap (λ x. record { end = b.end; due = x } ∷ unserved bs ns) e
-unserved_raised (b ∷ bs) (n ∷ ns) (suc k) lt =
-    ap (λ xs. record { end = b.end; due = b.due - n } ∷ xs) (unserved_raised bs ns k (omega arith))
+unserved_raised (b ∷ bs) (n ∷ ns) zero lt = grind arith
+unserved_raised (b ∷ bs) (n ∷ ns) (suc k) lt = let rest = unserved_raised bs ns k in grind arith
