@@ -30,8 +30,9 @@ caught_up_boundaries m slots ns r =
 -- with no slot to catch up with, a book means what it meant
 pub caught_up_none : (m : Meaning) (n : ℕ) → Ordered m → caught_up m 0 (replicate n 0) ≡ m
 caught_up_none m n ordered =
-    let same : m.clock + 0 ≡ m.clock = omega arith in
-    rw (same, unserved_none m.boundaries n, later_all m.clock m.boundaries m.horizon ordered) refl
+    let none = unserved_none m.boundaries n in
+    let all = later_all m.clock m.boundaries m.horizon ordered in
+    grind arith
 
 -- one slot less due at d, at the place where it stands
 served_at :
@@ -45,24 +46,22 @@ pub noted_for :
     k < length ns →
     caught_up m (slots + 1) (raised ns k) ≡ passed (caught_up m slots ns) (Some d)
 noted_for m slots ns d k r at lt =
-    let same : m.clock + (slots + 1) ≡ m.clock + slots + 1 = omega arith in
     let bs = caught_up_boundaries m slots ns r in
-    rw (same, bs, unserved_raised m.boundaries ns k lt, served_at (unserved m.boundaries ns) d k at) refl
+    let less = unserved_raised m.boundaries ns k lt in
+    let there = served_at (unserved m.boundaries ns) d k at in
+    grind arith
 
 -- The same of a slot for nobody.
 pub noted_for_nobody :
     (m : Meaning) (slots : ℕ) (ns : List ℕ) → rises (m.clock + slots) m.boundaries m.horizon ≡ true →
     caught_up m (slots + 1) ns ≡ passed (caught_up m slots ns) None
-noted_for_nobody m slots ns r =
-    let same : m.clock + (slots + 1) ≡ m.clock + slots + 1 = omega arith in
-    let bs = caught_up_boundaries m slots ns r in
-    rw (same, bs) refl
+noted_for_nobody m slots ns r = let bs = caught_up_boundaries m slots ns r in grind arith
 
 -- slots that end before the first interval does are caught up with
-within_first :
+within_first_end :
     (s t : ℕ) (bs : List Boundary) (h : ℕ) → rises s bs h ≡ true → rises t bs h ≡ true → t ≤ first_end s bs
-within_first s t [] h ordered r = grind (arith, nat_tests)
-within_first s t (b ∷ bs) h ordered r = grind (arith, nat_tests)
+within_first_end s t [] h ordered r = grind (arith, nat_tests)
+within_first_end s t (b ∷ bs) h ordered r = grind (arith, nat_tests)
 
 pub catches_up :
     (m : Meaning) (slots : ℕ) (r : Result (Unit {0}) Refusal) → Ordered m →
@@ -71,5 +70,5 @@ pub catches_up :
     IsOk r
 catches_up m slots (Ok x) ordered r says = refl
 catches_up m slots (Err e) ordered r says =
-    let within = within_first m.clock (m.clock + slots) m.boundaries m.horizon ordered r in
+    let within = within_first_end m.clock (m.clock + slots) m.boundaries m.horizon ordered r in
     grind (arith, nat_tests)

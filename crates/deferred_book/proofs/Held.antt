@@ -1,16 +1,15 @@
 -- What is known of every deferred book.
-use Rattle.std.proofs.Common.{◌≡◌, ℕ, ◌+◌, ◌-◌, ◌<◌, ◌≤◌, Bool, true, false, leb, List, length, get_or, Some, None, Option, Ok, Err, Result, refl, sym, ap, ◌∙◌, subst, arith}
-use Rattle.std.proofs.lemmas.Bool.{and_from, and_left, and_right, ne_eqb}
+use Rattle.std.proofs.Common.{◌≡◌, ℕ, ◌+◌, ◌-◌, ◌<◌, ◌≤◌, Bool, true, false, leb, length, get_or, Some, None, Option, Ok, Err, Result, refl, arith}
+use Rattle.std.proofs.lemmas.Bool.Decides.{nat_tests}
 use Rattle.std.specs.Bool.{then_some}
 use Rattle.std.specs.Option.{MatchOption, ForSome, IsSomeAnd, ok_or, option_transpose}
 use Rattle.std.specs.Result.{result_ok}
-use Rattle.capacity.specs.declared.boundary.Boundary.{Boundary}
-use Rattle.capacity.specs.Calls.{is_boundary, due_at, is_due, run_says, run_leaves}
+use Rattle.capacity.specs.Calls.{is_boundary, is_due, run_says, run_leaves}
 use Rattle.capacity.specs.Intervals.{boundary_at}
 use Rattle.capacity.specs.Meaning.{Meaning}
 use Rattle.capacity.specs.Noted.{unserved, first_end}
 use Rattle.capacity.specs.Places.{Stands, Found, Owing}
-use Rattle.capacity.specs.Slack.{rises, Ordered}
+use Rattle.capacity.specs.Slack.{Ordered}
 use Rattle.capacity.proofs.Least.{rises_le}
 use Rattle.capacity.proofs.Noted.{length_unserved, end_unserved, due_unserved, rises_unserved}
 use Rattle.capacity.proofs.Passing.{first_end_later}
@@ -44,14 +43,16 @@ boundaries_are b = caught_up_boundaries (slot_meaning b.settled) b.notes.slots (
 pub count_is :
     (b : DeferredBook) → length (deferred_meaning b).boundaries ≡ length (slot_meaning b.settled).boundaries
 count_is b =
-    ap length (boundaries_are b) ∙ length_unserved (slot_meaning b.settled).boundaries (served_by b.notes)
+    let same = boundaries_are b in
+    let kept = length_unserved (slot_meaning b.settled).boundaries (served_by b.notes) in
+    grind arith
 
 pub deferred_ordered : (b : DeferredBook) → Ordered (deferred_meaning b)
 deferred_ordered b =
     let m = slot_meaning b.settled in
-    let t = m.clock + b.notes.slots in
-    let P : List Boundary → Type 0 = λ bs. rises t bs m.horizon ≡ true in
-    subst P (sym (boundaries_are b)) (rises_unserved t m.boundaries m.horizon (served_by b.notes) b.within)
+    let same = boundaries_are b in
+    let rise = rises_unserved (m.clock + b.notes.slots) m.boundaries m.horizon (served_by b.notes) b.within in
+    grind arith
 
 -- what is due at a place
 pub due_is :
@@ -59,8 +60,9 @@ pub due_is :
     (boundary_at (deferred_meaning b).boundaries k).due
     ≡ (boundary_at (slot_meaning b.settled).boundaries k).due - get_or (served_by b.notes) k 0
 due_is b k =
-    ap (λ bs. (boundary_at bs k).due) (boundaries_are b)
-    ∙ due_unserved (slot_meaning b.settled).boundaries (served_by b.notes) k
+    let same = boundaries_are b in
+    let less = due_unserved (slot_meaning b.settled).boundaries (served_by b.notes) k in
+    grind arith
 
 -- a deadline stands where it stood
 pub stands_still :
@@ -68,23 +70,21 @@ pub stands_still :
     Stands (deferred_meaning b).boundaries d k
 stands_still b d k at =
     let D = deferred_meaning b in
+    let same = boundaries_are b in
     let within : k < length D.boundaries = omega (arith, at.within, count_is b) in
-    let ends : (boundary_at D.boundaries k).end ≡ d =
-    ap (λ bs. (boundary_at bs k).end) (boundaries_are b)
-    ∙ end_unserved (slot_meaning b.settled).boundaries (served_by b.notes) k
-    ∙ at.ends
-    in
+    let ends = end_unserved (slot_meaning b.settled).boundaries (served_by b.notes) k in
     stands D.boundaries d k
-    (λ j jk. let rise = ends_rise D.clock D.boundaries D.horizon j k (deferred_ordered b) jk within in omega arith) within ends
+    (λ j jk. let rise = ends_rise D.clock D.boundaries D.horizon j k (deferred_ordered b) jk within in grind arith)
+    within (grind arith)
 
 -- a deadline that is no boundary of the settled book has nothing due
 pub lacks_still :
     (b : DeferredBook) (d : ℕ) → is_boundary (slot_meaning b.settled).boundaries d ≡ false →
     is_due (deferred_meaning b) d 1 ≡ false
 lacks_still b d new =
-    let bs = (deferred_meaning b).boundaries in
-    and_left (is_boundary bs d) (leb 1 (due_at bs d))
-    (ap (λ xs. is_boundary xs d) (boundaries_are b) ∙ unserved_boundary (slot_meaning b.settled).boundaries (served_by b.notes) d ∙ new)
+    let same = boundaries_are b in
+    let still = unserved_boundary (slot_meaning b.settled).boundaries (served_by b.notes) d in
+    grind (arith, nat_tests)
 
 -- a search that keeps the place where something is due finds the place of an owner
 pub owing_kept :
@@ -96,10 +96,12 @@ pub owing_kept :
 owing_kept b d (Err k) kept Keeps new tells none = rw none (refl, lacks_still b d new.new)
 owing_kept b d (Ok k) kept Keeps found tells (true, keeps, is) =
     let at = stands_still b d k found in
-    rw is (at, and_from (is_boundary (deferred_meaning b).boundaries d) _ at.held (rw (← at.owes) (sym (tells k true keeps))))
+    let due = tells k true keeps in
+    rw is (at, grind (arith, nat_tests))
 owing_kept b d (Ok k) kept Keeps found tells (false, keeps, is) =
     let at = stands_still b d k found in
-    rw is (refl, and_right (is_boundary (deferred_meaning b).boundaries d) _ (rw (← at.owes) (sym (tells k false keeps))))
+    let none = tells k false keeps in
+    rw is (refl, grind (arith, nat_tests))
 
 -- where the slot at the clock does not end the first interval, it lies before the horizon, and can be noted
 pub before_horizon :
@@ -156,21 +158,18 @@ pub noted_run :
     × (after_notes (slot_meaning b.settled) notes ≡ run_leaves (deferred_meaning b) owner)
 noted_run b notes None place before owned slots noted =
     let m = slot_meaning b.settled in
-    let left = before_horizon b before in
-    rw (ne_eqb (deferred_meaning b).clock (deferred_meaning b).horizon (omega arith)) (
-      refl,
-      noted_meaning m b.notes notes None slots (rw owned at noted)
-          ∙ noted_for_nobody m b.notes.slots (served_by b.notes) b.within,
-    )
+    let ahead = before_horizon b before in
+    let left = noted_meaning m b.notes notes place slots noted in
+    let same = noted_for_nobody m b.notes.slots (served_by b.notes) b.within in
+    (grind (arith, nat_tests), grind (arith, nat_tests))
 noted_run b notes (Some d) None before owned slots noted = absurd owned
 noted_run b notes (Some d) (Some k) before owned slots noted =
     let m = slot_meaning b.settled in
-    let left = before_horizon b before in
-    let here : k < length (served_by b.notes) =
+    let ns = served_by b.notes in
+    let ahead = before_horizon b before in
+    let left = noted_meaning m b.notes notes (Some k) slots noted in
+    let here : k < length ns =
     omega (arith, place_below b d k owned.0, served_length b.notes.slots b.notes.noted, b.notes.each)
     in
-    rw (owned.1, ne_eqb (deferred_meaning b).clock (deferred_meaning b).horizon (omega arith)) (
-      refl,
-      noted_meaning m b.notes notes (Some k) slots noted
-          ∙ noted_for m b.notes.slots (served_by b.notes) d k b.within (rw (boundaries_are b) at owned.0) here,
-    )
+    let same = noted_for m b.notes.slots ns d k b.within (rw (boundaries_are b) at owned.0) here in
+    (grind (arith, nat_tests), grind (arith, nat_tests))

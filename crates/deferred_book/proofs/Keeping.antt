@@ -1,29 +1,25 @@
 -- Settling keeps the meaning, and noting a slot gives it to its owner.
-use Rattle.std.proofs.Common.{◌≡◌, ℕ, ◌+◌, replicate, Option, ap, ◌∙◌}
+use Rattle.std.proofs.Common.{◌≡◌, ℕ, ◌+◌, Option, ◌∙◌, arith}
 use Rattle.capacity.specs.Meaning.{Meaning}
 use Rattle.capacity.specs.Noted.{caught_up}
 use Rattle.slot_book.specs.declared.slot.SlotBook.{SlotBook}
 use Rattle.slot_book.specs.Slot.{slot_meaning}
 use Rattle.terms.specs.Limits.{most_boundaries}
 use Rattle.deferred_book.specs.declared.notes.Notes.{Notes}
-use Rattle.deferred_book.specs.Noting.{served_of, noting, Unnoted}
+use Rattle.deferred_book.specs.Noting.{noting, Unnoted}
 use Rattle.deferred_book.specs.Deferred.{served_by, after_notes}
 use Rattle.deferred_book.proofs.Catching.{caught_up_none}
 use Rattle.deferred_book.proofs.Facts.{book_ordered}
 use Rattle.deferred_book.proofs.Served.{served_none, served_more, one_more}
-
--- where no slot is noted, nobody got one
-nobody_served : (notes : Notes) → Unnoted notes → served_by notes ≡ replicate most_boundaries 0
-nobody_served notes none =
-    ap (λ s. served_of s notes.noted) none.slots ∙ ap (served_of 0) none.noted ∙ served_none most_boundaries
 
 -- where no slot is noted, a book means what it meant when it was settled
 pub unnoted_meaning :
     (settled : SlotBook) (notes : Notes) → Unnoted notes → after_notes (slot_meaning settled) notes ≡ slot_meaning settled
 unnoted_meaning settled notes none =
     let m = slot_meaning settled in
-    ap (λ s. caught_up m s (served_by notes)) none.slots ∙ ap (caught_up m 0) (nobody_served notes none)
-    ∙ caught_up_none m most_boundaries (book_ordered settled)
+    let nobody = served_none most_boundaries in
+    let same = caught_up_none m most_boundaries (book_ordered settled) in
+    grind arith
 
 -- Settling keeps the meaning: a book that has caught up with its notes, and has none any more, means what it meant with them.
 pub settling_keeps_the_meaning :
@@ -38,6 +34,5 @@ pub noted_meaning :
     notes.noted ≡ noting before.noted owner →
     after_notes m notes ≡ caught_up m (before.slots + 1) (one_more (served_by before) owner)
 noted_meaning m before notes owner slots noted =
-    ap (λ s. caught_up m s (served_of s notes.noted)) slots
-    ∙ ap (λ ns. caught_up m (before.slots + 1) (served_of (before.slots + 1) ns)) noted
-    ∙ ap (caught_up m (before.slots + 1)) (served_more before.slots before.noted owner (before.counted 0))
+    let more = served_more before.slots before.noted owner (before.counted 0) in
+    grind arith
