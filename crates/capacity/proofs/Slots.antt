@@ -1,8 +1,7 @@
 -- A slot for a deadline is one slot forgiven there, and then a slot for nobody.
-use Rattle.std.proofs.Common.{◌≡◌, ℕ, ◌-◌, ◌≤◌, Bool, true, false, not, eqb, leb, List, [], ◌∷◌, Some, None, refl, arith}
-use Rattle.std.proofs.lemmas.Bool.{and_parts, ne_eqb}
+use Rattle.std.proofs.Common.{◌≡◌, ℕ, ◌-◌, ◌≤◌, true, false, eqb, List, [], ◌∷◌, Some, None, refl, arith}
 use Rattle.std.proofs.lemmas.Bool.Decides.{nat_tests}
-use Rattle.terms.specs.Answers.{value, refuse}
+use Rattle.terms.specs.Answers.{value}
 use Rattle.capacity.specs.declared.boundary.Boundary.{Boundary}
 use Rattle.capacity.specs.Calls.{is_boundary, due_at, is_due, with_due, with_boundaries, forgive_says, forgive_leaves, run_says, run_leaves, passed}
 use Rattle.capacity.specs.Meaning.{Meaning}
@@ -23,10 +22,9 @@ boundary_within s (b ∷ bs) h d r is =
 -- where something is due, a slot is left
 slot_before : (m : Meaning) (d : ℕ) → Ordered m → is_due m d 1 ≡ true → eqb m.clock m.horizon ≡ false
 slot_before m d ordered due =
-    let is = (and_parts (is_boundary m.boundaries d) (leb 1 (due_at m.boundaries d)) due).0 in
-    let after = boundary_later m.clock m.boundaries m.horizon d ordered is in
-    let within = boundary_within m.clock m.boundaries m.horizon d ordered is in
-    ne_eqb m.clock m.horizon (omega arith)
+    let after = boundary_later m.clock m.boundaries m.horizon d ordered in
+    let within = boundary_within m.clock m.boundaries m.horizon d ordered in
+    grind (arith, nat_tests)
 
 pub forgive_taken :
     (m : Meaning) (d c : ℕ) → is_due m d c ≡ true →
@@ -45,10 +43,6 @@ pub run_is_forgive_and_pass :
 run_is_forgive_and_pass m d ordered due =
     let before = slot_before m d ordered due in (rw (due, before) refl, rw (due, before) refl)
 
-taken : (b : Bool) (x : Unit {0}) → value x ≡ refuse 6 (not b) (value tt) → b ≡ true
-taken true x says = refl
-taken false x says = cc
-
 -- what was forgiven was due
 pub forgiven : (m : Meaning) (d c : ℕ) (x : Unit {0}) → value x ≡ forgive_says m d c → is_due m d c ≡ true
-forgiven m d c x says = taken (is_due m d c) x says
+forgiven m d c x says = grind (arith, nat_tests)
