@@ -63,44 +63,44 @@ pub end_read :
     (b : SlotBook) (x : Span) (k : ℕ) → k < length (vec_items b.spans) → x ≡ get_or (vec_items b.spans) k x →
     (boundary_at (slot_boundaries b) k).end ≡ x.end
 end_read b x k lt read =
-    end_told b.clock (vec_items b.spans) k
+    end_told b.time.clock (vec_items b.spans) k
     ∙ ap (λ y. y.end) (sym (get_or_read (vec_items b.spans) k x lt read _))
 
 -- what is known of the record at a place of a book, as it was read there: in natural numbers but for the spare
 pub record Read (b : SlotBook) (x : Span) (k : ℕ) : Type 0 where
   pub small : Small x.spare
   pub ends : x.end ≡ (boundary_at (slot_boundaries b) k).end
-  pub wide : start_at b.clock (slot_boundaries b) k < x.end
-  pub early : x.end ≤ b.horizon
-  pub fits : (boundary_at (slot_boundaries b) k).due + short_from b.clock (slot_boundaries b) (k + 1) ≤ x.end
+  pub wide : start_at b.time.clock (slot_boundaries b) k < x.end
+  pub early : x.end ≤ b.time.horizon
+  pub fits : (boundary_at (slot_boundaries b) k).due + short_from b.time.clock (slot_boundaries b) (k + 1) ≤ x.end
   pub lacks :
-      short_from b.clock (slot_boundaries b) k
-      ≡ start_at b.clock (slot_boundaries b) k + (boundary_at (slot_boundaries b) k).due
-      + short_from b.clock (slot_boundaries b) (k + 1)
+      short_from b.time.clock (slot_boundaries b) k
+      ≡ start_at b.time.clock (slot_boundaries b) k + (boundary_at (slot_boundaries b) k).due
+      + short_from b.time.clock (slot_boundaries b) (k + 1)
       - x.end
   pub spare :
       x.spare
       +ℤ pos
-      (start_at b.clock (slot_boundaries b) k + (boundary_at (slot_boundaries b) k).due
-      + short_from b.clock (slot_boundaries b) (k + 1))
+      (start_at b.time.clock (slot_boundaries b) k + (boundary_at (slot_boundaries b) k).due
+      + short_from b.time.clock (slot_boundaries b) (k + 1))
       ≡ pos x.end
 
 pub read_at : (b : SlotBook) (k : ℕ) → k < length (vec_items b.spans) → Read b (span_at (vec_items b.spans) k) k
 read_at b k lt =
     let xs = vec_items b.spans in
     let bs = slot_boundaries b in
-    let at = placed_at b.clock bs b.horizon k b.ordered b.bounded (omega (arith, length_dues b.clock xs)) in
-    let ends = end_told b.clock xs k in
-    let next : short_from b.clock bs (k + 1) ≡ short_from b.clock bs (suc k) = ap (short_from b.clock bs) (add-one k) in
-    let used = start_at b.clock bs k + (boundary_at bs k).due + short_from b.clock bs (suc k) in
+    let at = placed_at b.time.clock bs b.time.horizon k b.ordered b.bounded (omega (arith, length_dues b.time.clock xs)) in
+    let ends = end_told b.time.clock xs k in
+    let next : short_from b.time.clock bs (k + 1) ≡ short_from b.time.clock bs (suc k) = ap (short_from b.time.clock bs) (add-one k) in
+    let used = start_at b.time.clock bs k + (boundary_at bs k).due + short_from b.time.clock bs (suc k) in
     record {
-      small = all_small b.clock xs b.horizon b.fair b.ordered b.bounded b.ranged k lt;
+      small = all_small b.time.clock xs b.time.horizon b.fair b.ordered b.bounded b.time.ranged k lt;
       ends = sym ends;
       wide = rw ends at at.wide;
       early = rw ends at at.early;
       fits = rw next (rw ends at at.fits);
       lacks = rw next (at.lacks ∙ omega arith);
-      spare = rw next (ap (λ z. z +ℤ pos used) (spare_told b.clock xs k b.fair) ∙ at.spare ∙ ap pos ends);
+      spare = rw next (ap (λ z. z +ℤ pos used) (spare_told b.time.clock xs k b.fair) ∙ at.spare ∙ ap pos ends);
     }
 
 pub read_in :
@@ -110,14 +110,14 @@ read_in b x k lt read =
     subst P (sym (get_or_read (vec_items b.spans) k x lt read _)) (read_at b k lt)
 
 pub book_small : (b : SlotBook) → AllSmall (vec_items b.spans)
-book_small b = all_small b.clock (vec_items b.spans) b.horizon b.fair b.ordered b.bounded b.ranged
+book_small b = all_small b.time.clock (vec_items b.spans) b.time.horizon b.fair b.ordered b.bounded b.time.ranged
 
 pub book_early : (b : SlotBook) (k : ℕ) → k < length (vec_items b.spans) → (span_at (vec_items b.spans) k).end ≤ 1000000
-book_early b k lt = omega (arith, (read_at b k lt).early, b.ranged)
+book_early b k lt = omega (arith, (read_at b k lt).early, b.time.ranged)
 
 -- there are no more boundaries than a book may hold
 pub slot_few : (b : SlotBook) → length (slot_boundaries b) ≤ most_boundaries
 slot_few b =
-    let same = length_dues b.clock (vec_items b.spans) in
+    let same = length_dues b.time.clock (vec_items b.spans) in
     let few : length (vec_items b.spans) ≤ most_boundaries = search rules in
     omega arith

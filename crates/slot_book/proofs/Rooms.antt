@@ -35,24 +35,24 @@ headroom_done s (b ∷ bs) (suc k) d le = headroom_done b.end bs k d (omega arit
 
 -- the sum so far, where the next interval begins before d
 pub record Summed (b : SlotBook) (d k start room : ℕ) : Type 0 where
-  pub starts : start ≡ start_at b.clock (slot_boundaries b) k
+  pub starts : start ≡ start_at b.time.clock (slot_boundaries b) k
   pub before : start < d
-  pub sum : room + headroom_at b.clock (slot_boundaries b) k d ≡ headroom (slot_meaning b) d
+  pub sum : room + headroom_at b.time.clock (slot_boundaries b) k d ≡ headroom (slot_meaning b) d
 
-pub sum_begins : (b : SlotBook) (d : ℕ) → b.clock < d → Summed b d 0 b.clock 0
+pub sum_begins : (b : SlotBook) (d : ℕ) → b.time.clock < d → Summed b d 0 b.time.clock 0
 sum_begins b d lt = record { starts = refl; before = lt; sum = omega arith }
 
 -- an interval's end and spare, in the records and by the demands that they tell
 own_end : (b : SlotBook) (k : ℕ) → (boundary_at (slot_boundaries b) k).end ≡ (span_at (vec_items b.spans) k).end
-own_end b k = end_told b.clock (vec_items b.spans) k
+own_end b k = end_told b.time.clock (vec_items b.spans) k
 
 own_spare :
     (b : SlotBook) (k : ℕ) →
-    (span_at (vec_items b.spans) k).spare ≡ get_or (spares b.clock (slot_boundaries b)) k (pos 0)
-own_spare b k = spare_told b.clock (vec_items b.spans) k b.fair
+    (span_at (vec_items b.spans) k).spare ≡ get_or (spares b.time.clock (slot_boundaries b)) k (pos 0)
+own_spare b k = spare_told b.time.clock (vec_items b.spans) k b.fair
 
 within : (b : SlotBook) (k : ℕ) → k < length (vec_items b.spans) → k < length (slot_boundaries b)
-within b k lt = omega (arith, length_dues b.clock (vec_items b.spans))
+within b k lt = omega (arith, length_dues b.time.clock (vec_items b.spans))
 
 -- d lies in the interval at place k: only what lies before it counts
 pub sum_ends :
@@ -61,10 +61,10 @@ pub sum_ends :
     room + positive_part (int_min (pos (d - start)) (span_at (vec_items b.spans) k).spare) ≡ headroom (slot_meaning b) d
 sum_ends b d k start room so lt le =
     let bs = slot_boundaries b in
-    let turn = headroom_turn b.clock bs k d (within b k lt) in
+    let turn = headroom_turn b.time.clock bs k d (within b k lt) in
     let inside = le-leb d (boundary_at bs k).end (omega (arith, own_end b k)) in
-    let width : pos (d - start) ≡ pos d -ℤ pos (start_at b.clock bs k) = omega (arith, ints, so.before, so.starts) in
-    let here : headroom_at b.clock bs k d ≡ positive_part (int_min (pos (d - start)) (span_at (vec_items b.spans) k).spare) =
+    let width : pos (d - start) ≡ pos d -ℤ pos (start_at b.time.clock bs k) = omega (arith, ints, so.before, so.starts) in
+    let here : headroom_at b.time.clock bs k d ≡ positive_part (int_min (pos (d - start)) (span_at (vec_items b.spans) k).spare) =
     rw (width, own_spare b k) (turn ∙ rw inside refl)
     in
     omega (arith, so.sum)
@@ -76,15 +76,15 @@ pub sum_more :
     Summed b d (k + 1) (span_at (vec_items b.spans) k).end (room + positive_part (span_at (vec_items b.spans) k).spare)
 sum_more b d k start room so lt past =
     let bs = slot_boundaries b in
-    let turn = headroom_turn b.clock bs k d (within b k lt) in
+    let turn = headroom_turn b.time.clock bs k d (within b k lt) in
     let outside = lt-leb d (boundary_at bs k).end (omega (arith, own_end b k)) in
-    let here : headroom_at b.clock bs k d
-    ≡ positive_part (span_at (vec_items b.spans) k).spare + headroom_at b.clock bs (suc k) d =
+    let here : headroom_at b.time.clock bs k d
+    ≡ positive_part (span_at (vec_items b.spans) k).spare + headroom_at b.time.clock bs (suc k) d =
     rw (own_spare b k) (turn ∙ rw outside refl)
     in
     let next : k + 1 ≡ suc k = add-one k in
     record {
-      starts = rw next (sym (own_end b k) ∙ sym (start_next b.clock bs k (within b k lt)));
+      starts = rw next (sym (own_end b k) ∙ sym (start_next b.time.clock bs k (within b k lt)));
       before = past;
       sum = rw next (omega (arith, so.sum));
     }
@@ -96,15 +96,15 @@ sum_all b d k start room so past =
     omega (
       arith,
       so.sum,
-      headroom_done b.clock (slot_boundaries b) k d (omega (arith, length_dues b.clock (vec_items b.spans))),
+      headroom_done b.time.clock (slot_boundaries b) k d (omega (arith, length_dues b.time.clock (vec_items b.spans))),
     )
 
-pub headroom_small : (b : SlotBook) (d : ℕ) → b.clock ≤ d → headroom (slot_meaning b) d ≤ 1000000
+pub headroom_small : (b : SlotBook) (d : ℕ) → b.time.clock ≤ d → headroom (slot_meaning b) d ≤ 1000000
 headroom_small b d le =
     let bs = slot_boundaries b in
     omega (
       arith,
-      headroom_is_room b.clock bs b.horizon d b.ordered le,
-      room_from_le b.clock bs b.horizon 0 d b.ordered (omega arith),
-      b.ranged,
+      headroom_is_room b.time.clock bs b.time.horizon d b.ordered le,
+      room_from_le b.time.clock bs b.time.horizon 0 d b.ordered (omega arith),
+      b.time.ranged,
     )

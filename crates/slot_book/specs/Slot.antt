@@ -7,7 +7,7 @@ use Rattle.slot_book.specs.Spans.{dues_of}
 
 -- The demands that its spares tell.
 abbrev pub slot_boundaries : SlotBook → List Boundary
-slot_boundaries b = dues_of b.clock (vec_items b.spans)
+slot_boundaries b = dues_of b.time.clock (vec_items b.spans)
 
 abbrev pub slot_meaning : SlotBook → Meaning
-slot_meaning b = record { clock = b.clock; horizon = b.horizon; boundaries = slot_boundaries b }
+slot_meaning b = record { clock = b.time.clock; horizon = b.time.horizon; boundaries = slot_boundaries b }

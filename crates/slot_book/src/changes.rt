@@ -51,12 +51,9 @@ impl SlotBook {
         ensures answer { said result ≡ run_says (slot_meaning self.old) None }
         ensures book { slot_meaning self.new ≡ run_leaves (slot_meaning self.old) None }
     {
-        if self.clock == self.horizon {
-            return Err(Refusal::AtHorizon);
-        }
-        self.clock += 1;
+        self.time.pass()?;
         self.spans[0] = self.spans[0].changed(-1);
-        drop_ended(&mut self.spans, self.clock);
+        drop_ended(&mut self.spans, self.time.clock);
         Ok(())
     }
 
@@ -66,8 +63,8 @@ impl SlotBook {
         requires owed { 1 ≤ due_at (slot_boundaries self.old) deadline }
         ensures { slot_meaning self.new ≡ passed (slot_meaning self.old) (Some deadline) }
     {
-        self.clock += 1;
-        drop_ended(&mut self.spans, self.clock);
+        self.time.clock += 1;
+        drop_ended(&mut self.spans, self.time.clock);
     }
 
     // Lets a slot pass for the demand due at a deadline. Refused 6 where nothing is due.

@@ -1,34 +1,24 @@
 // The slot-by-slot book shows every line of a book. Each call looks before it writes, so that a refusal changes nothing.
-ghost use Rattle.std.specs.Prelude.{◌≡◌, IfOk};
-ghost use Rattle.capacity.specs.Calls.{cleared, to_come};
 ghost use Rattle.slot_book.specs.Slot.{slot_meaning};
 
 use crate::SlotBook;
 use crate::span::Span;
-use capacity::Book;
+use capacity::{Book, NewBook, Timeline};
 use std::alloc::{AllocError, Global};
 use terms::Refusal;
-use terms::limits::{MAX_BOUNDARIES, MAX_HORIZON};
+use terms::limits::MAX_BOUNDARIES;
 
-impl SlotBook {
-    // A book cleared to the shortest horizon, with room for every interval that it may come to hold. No other call takes memory.
-    pub fn new(heap: Global) -> Result<SlotBook, AllocError>
-        ensures { IfOk result (λ b. slot_meaning b ≡ cleared 1) }
-    {
+impl NewBook for SlotBook {
+    fn new(heap: Global) -> Result<Self, AllocError> {
         let mut spans = Vec::with_capacity(heap, MAX_BOUNDARIES)?;
         spans.push_reserved(Span { end: 1, spare: 1 });
         Ok(SlotBook {
-            clock: 0,
-            horizon: 1,
+            time: Timeline {
+                clock: 0,
+                horizon: 1,
+            },
             spans,
         })
-    }
-
-    // Whether a slot or a deadline is after the clock and not after the horizon.
-    fn is_to_come(&self, slot: u32) -> bool
-        ensures { result ≡ to_come (slot_meaning self.now) slot }
-    {
-        self.clock < slot && slot <= self.horizon
     }
 }
 
@@ -36,11 +26,7 @@ impl Book for SlotBook {
     ghost meaning = { slot_meaning };
 
     fn clear(&mut self, horizon: u32) -> Result<(), Refusal> {
-        if horizon < 1 || horizon > MAX_HORIZON {
-            return Err(Refusal::OutOfRange);
-        }
-        self.clock = 0;
-        self.horizon = horizon;
+        self.time = Timeline::new(horizon)?;
         self.spans.clear();
         self.spans.push_reserved(Span {
             end: horizon,
@@ -50,7 +36,7 @@ impl Book for SlotBook {
     }
 
     fn cut(&mut self, deadline: u32) -> Result<(), Refusal> {
-        if !self.is_to_come(deadline) {
+        if !self.time.is_to_come(deadline) {
             return Err(Refusal::Unfit);
         }
         let Err(place) = self.place(deadline) else {
@@ -91,7 +77,7 @@ impl Book for SlotBook {
     }
 
     fn clock(&self) -> u32 {
-        self.clock
+        self.time.clock
     }
 
     fn count(&self) -> usize {
@@ -106,7 +92,7 @@ impl Book for SlotBook {
     }
 
     fn headroom(&mut self, deadline: u32) -> Result<u32, Refusal> {
-        if !self.is_to_come(deadline) {
+        if !self.time.is_to_come(deadline) {
             return Err(Refusal::Unfit);
         }
         Ok(self.room(deadline))

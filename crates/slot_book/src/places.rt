@@ -16,7 +16,7 @@ impl SlotBook {
     pub fn horizon(&self) -> u32
         ensures { result ≡ (slot_meaning self.now).horizon }
     {
-        self.horizon
+        self.time.horizon
     }
 
     // How many boundaries are to come.
@@ -51,15 +51,15 @@ impl SlotBook {
     // Where the interval at a place begins.
     pub(crate) fn start(&self, place: usize) -> u32
         requires { place ≤ vec_len self.now.spans }
-        ensures { result ≡ start_at self.now.clock (slot_boundaries self.now) place }
+        ensures { result ≡ start_at self.now.time.clock (slot_boundaries self.now) place }
     {
-        start_of(&self.spans, self.clock, place)
+        start_of(&self.spans, self.time.clock, place)
     }
 
     // What the intervals from a place on take from before it; nothing behind the last.
     pub(crate) fn lacking(&self, place: usize) -> u32
         requires { place ≤ vec_len self.now.spans }
-        ensures { result ≡ short (start_at self.now.clock (slot_boundaries self.now) place) (drop place (slot_boundaries self.now)) }
+        ensures { result ≡ short (start_at self.now.time.clock (slot_boundaries self.now) place) (drop place (slot_boundaries self.now)) }
     {
         if place < self.spans.len() {
             self.spans[place].lacking()
@@ -74,7 +74,7 @@ impl SlotBook {
     {
         match self.spans.first() {
             Some(span) => span.end,
-            None => self.clock,
+            None => self.time.clock,
         }
     }
 
@@ -104,10 +104,10 @@ impl SlotBook {
 
     // The headroom at a deadline behind the clock: what the intervals before it have free, and of its own what lies before it.
     pub(crate) fn room(&self, deadline: u32) -> u32
-        requires { self.now.clock < deadline }
+        requires { self.now.time.clock < deadline }
         ensures { result ≡ headroom (slot_meaning self.now) deadline }
     {
-        let mut start = self.clock;
+        let mut start = self.time.clock;
         let mut room = 0;
         for span in self.spans.iter() {
             if deadline <= span.end {

@@ -18,12 +18,12 @@ impl SlotBook {
         ensures answer { said result ≡ catch_up_says (slot_meaning self.old) slots }
         ensures book { slot_meaning self.new ≡ catch_up_leaves (slot_meaning self.old) slots served.now }
     {
-        if slots > self.first_end() - self.clock {
+        if slots > self.first_end() - self.time.clock {
             return Err(Refusal::Unfit);
         }
-        let clock = self.clock + slots;
-        mend(&mut self.spans, self.clock, clock, served);
-        self.clock = clock;
+        let clock = self.time.clock + slots;
+        mend(&mut self.spans, self.time.clock, clock, served);
+        self.time.clock = clock;
         drop_ended(&mut self.spans, clock);
         Ok(())
     }

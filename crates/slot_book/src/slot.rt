@@ -2,24 +2,23 @@
 ghost use Rattle.std.specs.Prelude.{◌≡◌, ◌≤◌, true, vec_len, vec_capacity};
 ghost use Rattle.capacity.specs.Shortage.{short};
 ghost use Rattle.capacity.specs.Slack.{rises};
-ghost use Rattle.terms.specs.Limits.{longest_horizon, most_boundaries};
+ghost use Rattle.terms.specs.Limits.{most_boundaries};
 ghost use Rattle.slot_book.specs.Spans.{spans_of, dues_of};
 
 use crate::span::Span;
+use capacity::Timeline;
 
 // A clock, a horizon, and the intervals to come with the spare capacity of each. What is due is worked out from the spares.
 #[derive(Drop)]
 pub struct SlotBook {
-    pub(crate) clock: u32,
-    pub(crate) horizon: u32,
+    pub(crate) time: Timeline,
     pub(crate) spans: Vec<Span>,
     // The spares are those of the demands that they tell.
-    ghost fair: { spans_of clock (dues_of clock spans.items) ≡ spans.items },
+    ghost fair: { spans_of time.clock (dues_of time.clock spans.items) ≡ spans.items },
     // The boundaries rise from the clock to the horizon.
-    ghost ordered: { rises clock (dues_of clock spans.items) horizon ≡ true },
+    ghost ordered: { rises time.clock (dues_of time.clock spans.items) time.horizon ≡ true },
     // They take no more from before the clock than the slots that have passed. This bounds every number that is formed.
-    ghost bounded: { short clock (dues_of clock spans.items) ≤ clock },
-    ghost ranged: { horizon ≤ longest_horizon },
+    ghost bounded: { short time.clock (dues_of time.clock spans.items) ≤ time.clock },
     ghost few: { vec_len spans ≤ most_boundaries },
     ghost room: { most_boundaries ≤ vec_capacity spans },
 }

@@ -5,4 +5,4 @@ use Rattle.slot_book.proofs.lines.SlotBookBook.owe.Goals as goal
 pub room-requires : goal.room-requires
 room-requires c =
     let book = c.args.self.now in
-    boundary_later book.clock (slot_boundaries book) book.horizon c.args.deadline book.ordered c.in-Ok.ensures.held
+    boundary_later book.time.clock (slot_boundaries book) book.time.horizon c.args.deadline book.ordered c.in-Ok.ensures.held

@@ -15,7 +15,7 @@ returns c =
     let within : c.args.interval - 1 < length xs = search rules in
     let is : c.index.result.now.spare ≡ spare (slot_meaning book) c.args.interval =
     ap (λ x. x.spare) (get_or_read xs (c.args.interval - 1) _ within c.index.ensures _)
-    ∙ spare_told book.clock xs (c.args.interval - 1) book.fair
+    ∙ spare_told book.time.clock xs (c.args.interval - 1) book.fair
     in
     record {
       answer =

@@ -10,7 +10,7 @@ returns-then-place-len c =
     let book = c.args.self.now in
     let past : length (vec_items book.spans) ≤ c.args.place = search rules in
     ap (λ b. b.due)
-    (sym (get_or_past (slot_boundaries book) c.args.place _ (omega (arith, length_dues book.clock (vec_items book.spans)))))
+    (sym (get_or_past (slot_boundaries book) c.args.place _ (omega (arith, length_dues book.time.clock (vec_items book.spans)))))
 
 pub used-requires : goal.used-requires
 used-requires c =
@@ -18,7 +18,7 @@ used-requires c =
     let x = read_in c.args.self.now c.index.result.now c.args.place within c.index.ensures in
     record {
       small = x.small;
-      wide = (omega (arith, x.wide, c.start-start.ensures), omega (arith, x.early, c.args.self.now.ranged));
+      wide = (omega (arith, x.wide, c.start-start.ensures), omega (arith, x.early, c.args.self.now.time.ranged));
       some = omega (arith, ints, x.spare, c.start-start.ensures);
     }
 

@@ -22,5 +22,5 @@ returns-else-place-len c =
     let bs = slot_boundaries book in
     let within : c.args.place ≤ length (vec_items book.spans) = search rules in
     let past : length (vec_items book.spans) ≤ c.args.place = search rules in
-    let all : c.args.place ≡ length bs = omega (arith, length_dues book.clock (vec_items book.spans)) in
-    rw all (sym (short_all book.clock bs))
+    let all : c.args.place ≡ length bs = omega (arith, length_dues book.time.clock (vec_items book.spans)) in
+    rw all (sym (short_all book.time.clock bs))

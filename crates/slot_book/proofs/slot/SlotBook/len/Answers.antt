@@ -4,5 +4,5 @@ use Rattle.slot_book.proofs.slot.SlotBook.len.Goals as goal
 
 pub returns : goal.returns
 returns c =
-    let all = length_dues c.args.self.now.clock (vec_items c.args.self.now.spans) in
+    let all = length_dues c.args.self.now.time.clock (vec_items c.args.self.now.spans) in
     record { told = omega (arith, all); kept = c.len.ensures }

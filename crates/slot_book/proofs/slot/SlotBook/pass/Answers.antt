@@ -1,50 +1,34 @@
-use Rattle.std.proofs.Common.{◌+◌, ◌<◌, ◌≤◌, length, vec_items, refl, ap, arith, rules}
-use Rattle.std.proofs.lemmas.Bool.{eq-eqb, ne_eqb}
+use Rattle.std.proofs.Common.{◌<◌, None, length, vec_items, rules}
+use Rattle.std.proofs.lemmas.Bool.{eqb-false}
+use Rattle.capacity.specs.Calls.{passed}
+use Rattle.slot_book.specs.Slot.{slot_meaning}
 use Rattle.slot_book.proofs.Books.{read_in}
 use Rattle.slot_book.proofs.Correspond.{span_is}
-use Rattle.slot_book.proofs.Writes.{slot_to_come, some_span, passes_none}
+use Rattle.slot_book.proofs.Writes.{Tells, not_refused, some_span, passes_none}
+use Rattle.slot_book.proofs.slot.SlotBook.pass.Goals.{After-drop_ended}
 use Rattle.slot_book.proofs.slot.SlotBook.pass.Goals as goal
 
-pub returns-then-self : goal.returns-then-self
-returns-then-self c =
-    let at = eq-eqb c.args.self.now.clock c.args.self.now.horizon c.if-self.true in
-    record { answer = rw at refl; book = rw at refl }
-
-pub overflow_add-self : goal.overflow_add-self
-overflow_add-self c =
-    let before = slot_to_come c.args.self.now c.if-self.false in
-    let small : c.args.self.now.clock ≤ 1000000 = omega (arith, c.args.self.now.ranged) in
-    search rules
-
-pub index-requires : goal.index-requires
-index-requires c =
-    let some : 0 < length (vec_items c.args.self.now.spans) = some_span c.args.self.now c.if-self.false in
-    search rules
+told :
+    (c : After-drop_ended) →
+    Tells c.pass.new.self.clock c.pass.new.self.horizon c.drop_ended.new.spans.items (passed (slot_meaning c.args.self.now) None)
+told c =
+    let b = c.args.self.now in
+    passes_none b c.index.result.now c.changed.result _ _ _ (not_refused b c.in_ok-pass.ensures.answer) c.index.ensures
+    (span_is c.changed.result _ _ c.changed.ensures.end c.changed.ensures.spare)
+    c.drop_ended.ensures.items c.in_ok-pass.ensures.clock c.in_ok-pass.ensures.horizon
 
 pub changed-requires : goal.changed-requires
 changed-requires c =
-    let some : 0 < length (vec_items c.args.self.now.spans) = some_span c.args.self.now c.if-self.false in
-    ((read_in c.args.self.now c.index.result.now 0 some c.index.ensures).small, (search rules, search rules))
+    let b = c.args.self.now in
+    let some : 0 < length (vec_items b.spans) = some_span b (eqb-false _ _ (not_refused b c.in_ok-pass.ensures.answer)) in
+    ((read_in b c.index.result.now 0 some c.index.ensures).small, (search rules, search rules))
 
-pub index_mut-requires : goal.index_mut-requires
-index_mut-requires c =
-    let some : 0 < length (vec_items c.args.self.now.spans) = some_span c.args.self.now c.if-self.false in
-    search rules
+pub invariant_of-self-2 : goal.invariant_of-self-2
+invariant_of-self-2 c =
+    let k = (told (goal.at.invariant_of-self-2 c).After-drop_ended).keeps in
+    record { fair = k.fair; ordered = k.ordered; bounded = k.bounded; few = search rules; room = search rules }
 
-pub invariant_of-self : goal.invariant_of-self
-invariant_of-self c =
-    let book = c.args.self.now in
-    let less = span_is c.changed.result _ _ c.changed.ensures.end c.changed.ensures.spare in
-    let k = passes_none book c.index.result.now c.changed.result _ c.if-self.false c.index.ensures less c.drop_ended.ensures.items in
-    record { fair = k.keeps.fair; ordered = k.keeps.ordered; bounded = k.keeps.bounded; ranged = book.ranged; few = search rules; room = search rules }
-
-pub returns : goal.returns
-returns c =
-    let book = c.args.self.now in
-    let less = span_is c.changed.result _ _ c.changed.ensures.end c.changed.ensures.spare in
-    let k = passes_none book c.index.result.now c.changed.result _ c.if-self.false c.index.ensures less c.drop_ended.ensures.items in
-    let off = ne_eqb book.clock book.horizon c.if-self.false in
-    record {
-      answer = rw off refl;
-      book = rw off (ap (λ bs. record { clock = book.clock + 1; horizon = book.horizon; boundaries = bs }) k.tells);
-    }
+pub returns-clause-book : goal.returns-clause-book
+returns-clause-book c =
+    let off = not_refused c.args.self.now c.in_ok-pass.ensures.answer in
+    rw off (told (goal.at.returns-clause-book c).After-drop_ended).means

@@ -1,7 +1,5 @@
-use Rattle.std.proofs.Common.{◌≡◌, ◌<◌, length, set, vec_items, ap, arith, rules}
+use Rattle.std.proofs.Common.{◌≡◌, ◌<◌, length, set, vec_items, arith, rules}
 use Rattle.std.specs.List.{insert}
-use Rattle.capacity.specs.Calls.{with_boundaries}
-use Rattle.slot_book.specs.Slot.{slot_meaning}
 use Rattle.slot_book.proofs.Books.{read_in}
 use Rattle.slot_book.proofs.Correspond.{span_is}
 use Rattle.slot_book.proofs.Writes.{inside, split_at}
@@ -57,7 +55,7 @@ invariant_of-self c =
     (span_is c.left_part.result _ _ c.left_part.ensures.end c.left_part.ensures.spare)
     (span_is c.right_part.result _ _ c.right_part.ensures.end c.right_part.ensures.spare) items
     in
-    record { fair = k.keeps.fair; ordered = k.keeps.ordered; bounded = k.keeps.bounded; ranged = book.ranged; few = search rules; room = search rules }
+    record { fair = k.keeps.fair; ordered = k.keeps.ordered; bounded = k.keeps.bounded; few = search rules; room = search rules }
 
 pub returns : goal.returns
 returns c =
@@ -72,4 +70,4 @@ returns c =
     (span_is c.left_part.result _ _ c.left_part.ensures.end c.left_part.ensures.spare)
     (span_is c.right_part.result _ _ c.right_part.ensures.end c.right_part.ensures.spare) items
     in
-    ap (with_boundaries (slot_meaning book)) k.tells
+    k.means

@@ -7,5 +7,5 @@ pub returns : goal.returns
 returns c =
     let book = c.args.self.now in
     let within : c.args.place ≤ length (vec_items book.spans) = search rules in
-    c.start_of.ensures ∙ ap (λ xs. start_of book.clock xs c.args.place) c.deref.ensures.value
-    ∙ sym (start_told book.clock (vec_items book.spans) c.args.place within)
+    c.start_of.ensures ∙ ap (λ xs. start_of book.time.clock xs c.args.place) c.deref.ensures.value
+    ∙ sym (start_told book.time.clock (vec_items book.spans) c.args.place within)
