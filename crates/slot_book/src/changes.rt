@@ -10,7 +10,7 @@ ghost use Rattle.slot_book.specs.Spans.{later_spans};
 
 use crate::SlotBook;
 use crate::span::Span;
-use crate::walk::{carry, loss};
+use crate::walk::carry;
 use terms::Refusal;
 
 impl SlotBook {
@@ -33,8 +33,7 @@ impl SlotBook {
         requires fits { demand ≤ headroom (slot_meaning self.old) deadline }
         ensures { slot_meaning self.new ≡ with_boundaries (slot_meaning self.old) (with_due (slot_boundaries self.old) deadline (due_at (slot_boundaries self.old) deadline + demand)) }
     {
-        let change = loss(demand);
-        carry(&mut self.spans, place, change);
+        carry(&mut self.spans, place, -(demand as i32));
     }
 
     // So much less is due at the boundary at a place.
@@ -88,7 +87,7 @@ pub(crate) fn drop_ended(spans: &mut Vec<Span>, slot: u32)
     ensures len { vec_len spans.new ≤ vec_len spans.old }
     ensures capacity { vec_capacity spans.new ≡ vec_capacity spans.old }
 {
-    if !spans.is_empty() && spans[0].end == slot {
+    if spans.first().is_some_and(|span| span.end == slot) {
         spans.remove(0);
     }
 }

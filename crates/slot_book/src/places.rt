@@ -27,25 +27,12 @@ impl SlotBook {
         self.spans.len()
     }
 
-    // The place of a deadline among the boundaries, or the place that it would have. A search by halves.
+    // The place of a deadline among the boundaries, or the place that it would have.
     pub fn place(&self, deadline: u32) -> Result<usize, usize>
         ensures { Found (slot_meaning self.now).boundaries deadline result }
     {
-        let mut low = 0;
-        let mut high = self.spans.len();
-        while low < high {
-            let middle = low + (high - low) / 2;
-            let end = self.spans[middle].end;
-            if end == deadline {
-                return Ok(middle);
-            }
-            if end < deadline {
-                low = middle + 1;
-            } else {
-                high = middle;
-            }
-        }
-        Err(low)
+        self.spans
+            .binary_search_by_key(&deadline, |span| span.end)
     }
 
     // Where the interval at a place begins.
@@ -72,10 +59,9 @@ impl SlotBook {
     pub fn first_end(&self) -> u32
         ensures { result ≡ first_end (slot_meaning self.now).clock (slot_meaning self.now).boundaries }
     {
-        match self.spans.first() {
-            Some(span) => span.end,
-            None => self.time.clock,
-        }
+        self.spans
+            .first()
+            .map_or(self.time.clock, |span| span.end)
     }
 
     // What is due at the boundary at a place, worked out from neighbouring spares; nothing where there is none.
@@ -93,13 +79,10 @@ impl SlotBook {
     pub(crate) fn owing_place(&self, deadline: u32, demand: u32) -> Result<usize, Refusal>
         ensures { Owing (slot_meaning self.now) deadline demand result }
     {
-        let Ok(place) = self.place(deadline) else {
-            return Err(Refusal::NotHeld);
-        };
-        if demand > self.due(place) {
-            return Err(Refusal::NotHeld);
-        }
-        Ok(place)
+        self.place(deadline)
+            .ok()
+            .filter(|&place| demand <= self.due(place))
+            .ok_or(Refusal::NotHeld)
     }
 
     // The headroom at a deadline behind the clock: what the intervals before it have free, and of its own what lies before it.

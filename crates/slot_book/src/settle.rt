@@ -34,22 +34,14 @@ pub(crate) fn start_of(spans: &[Span], first: u32, place: usize) -> u32
     requires { place ≤ length spans.now }
     ensures { result ≡ start_of first spans.now place }
 {
-    if place == 0 {
-        first
-    } else {
-        spans[place - 1].end
-    }
+    spans[..place].last().map_or(first, |before| before.end)
 }
 
 // How many slots the boundary at a place has been given.
 fn given(served: &[u32], place: usize) -> u32
     ensures { result ≡ slice_index served.now place }
 {
-    if place < served.len() {
-        served[place]
-    } else {
-        0
-    }
+    served.get(place).copied().unwrap_or(0)
 }
 
 // Mends the spares, from the last interval to the first, for slots that have passed between two clocks. What an interval behind

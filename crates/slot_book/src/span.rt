@@ -46,11 +46,7 @@ impl Span {
         requires { Small self.spare }
         ensures { pos result +ℤ int_min (pos 0) self.spare ≡ pos 0 }
     {
-        if self.spare < 0 {
-            (0 - self.spare) as u32
-        } else {
-            0
-        }
+        self.below_nought().unsigned_abs()
     }
 
     // The interval between two slots of which so much is used.

@@ -1,6 +1,5 @@
 // The walk back from an interval whose spare changes to those before it.
-ghost use Rattle.std.specs.Prelude.{◌≡◌, ◌<◌, ◌≤◌, true, false, ◌⊎◌, length, pos, ◌-ℤ◌, ◌≢◌};
-ghost use Rattle.terms.specs.Limits.{longest_horizon};
+ghost use Rattle.std.specs.Prelude.{◌≡◌, ◌<◌, ◌≤◌, true, false, ◌⊎◌, length, pos, ◌≢◌};
 ghost use Rattle.slot_book.specs.Carry.{carried, Rose, AllSmall};
 ghost use Rattle.slot_book.specs.Small.{Small};
 
@@ -33,12 +32,4 @@ fn is_over(change: i32, place: usize) -> bool
     ensures goes { result ≡ false → (change ≢ pos 0) × (place ≢ 0) }
 {
     change == 0 || place == 0
-}
-
-// A demand as a change: so many slots less to spare.
-pub(crate) fn loss(demand: u32) -> i32
-    requires { demand ≤ longest_horizon }
-    ensures { result ≡ pos 0 -ℤ pos demand }
-{
-    0 - demand as i32
 }
