@@ -1,21 +1,22 @@
 -- What is known of the records of a book, by their places.
-use Rattle.std.proofs.Common.{◌≡◌, ℕ, zero, suc, ◌+◌, ◌-◌, ◌<◌, ◌≤◌, true, List, [], ◌∷◌, length, get_or, pos, ◌+ℤ◌, vec_items, sym, refl, ap, ◌∙◌, subst, add-one, arith, rules}
+use Rattle.std.proofs.Common.{◌≡◌, ℕ, zero, suc, ◌+◌, ◌-◌, ◌<◌, ◌≤◌, List, [], ◌∷◌, length, get_or, pos, ◌+ℤ◌, vec_items, sym, refl, ap, ◌∙◌, subst, add-one, arith, rules, Option, Some, None, Bor, vec_len, ◌<◌}
 use Rattle.std.proofs.lemmas.List.{get_or_read}
-use Rattle.std.proofs.lemmas.Int.{ints}
+use Rattle.std.specs.Int.{int_min}
+use Rattle.std.specs.Option.{MatchOption}
+use Rattle.std.specs.List.{HoldsAt}
+use Rattle.std.proofs.lemmas.Int.{ints, clamps}
 use Rattle.capacity.specs.declared.boundary.Boundary.{Boundary}
 use Rattle.capacity.specs.Intervals.{boundary_at, start_at}
-use Rattle.capacity.specs.Shortage.{short}
-use Rattle.capacity.specs.Slack.{rises}
 use Rattle.capacity.specs.Spare.{spares}
-use Rattle.capacity.proofs.Suffixes.{placed_at, short_from}
+use Rattle.capacity.proofs.Suffixes.{placed_at, short_from, short_all}
 use Rattle.terms.specs.Limits.{most_boundaries}
 use Rattle.slot_book.specs.Carry.{span_at, AllSmall}
 use Rattle.slot_book.specs.Mend.{start_of}
 use Rattle.slot_book.specs.Slot.{slot_boundaries}
-use Rattle.slot_book.specs.Small.{Small}
 use Rattle.slot_book.specs.Spans.{spans_of, dues_of}
 use Rattle.slot_book.specs.declared.slot.SlotBook.{SlotBook}
 use Rattle.slot_book.specs.declared.span.Span.{Span}
+use Rattle.slot_book.proofs.Correspond.{Sound}
 
 pub length_dues : (s : ℕ) (xs : List Span) → length (dues_of s xs) ≡ length xs
 length_dues s [] = refl
@@ -49,26 +50,14 @@ pub spare_told :
 spare_told s xs k fair = ap (λ ys. (span_at ys k).spare) (sym fair) ∙ spare_of s (dues_of s xs) k
 
 pub all_small :
-    (s : ℕ) (xs : List Span) (h : ℕ) → spans_of s (dues_of s xs) ≡ xs → rises s (dues_of s xs) h ≡ true →
-    short s (dues_of s xs) ≤ s →
-    h ≤ 1000000 →
-    AllSmall xs
-all_small s xs h fair ordered bounded ranged k lt =
-    let at = placed_at s (dues_of s xs) h k ordered bounded (omega (arith, length_dues s xs)) in
-    let is = spare_told s xs k fair in
+    (s : ℕ) (xs : List Span) (h : ℕ) → Sound s h xs → h ≤ 1000000 → AllSmall xs
+all_small s xs h sound ranged k lt =
+    let at = placed_at s (dues_of s xs) h k sound.ordered sound.bounded (omega (arith, length_dues s xs)) in
+    let is = spare_told s xs k sound.fair in
     (omega (arith, ints, at.wide, at.early, at.fits, at.spare), omega (arith, ints, at.wide, at.early, at.fits, at.spare))
-
--- an end that is read
-pub end_read :
-    (b : SlotBook) (x : Span) (k : ℕ) → k < length (vec_items b.spans) → x ≡ get_or (vec_items b.spans) k x →
-    (boundary_at (slot_boundaries b) k).end ≡ x.end
-end_read b x k lt read =
-    end_told b.time.clock (vec_items b.spans) k
-    ∙ ap (λ y. y.end) (sym (get_or_read (vec_items b.spans) k x lt read _))
 
 -- what is known of the record at a place of a book, as it was read there: in natural numbers but for the spare
 pub record Read (b : SlotBook) (x : Span) (k : ℕ) : Type 0 where
-  pub small : Small x.spare
   pub ends : x.end ≡ (boundary_at (slot_boundaries b) k).end
   pub wide : start_at b.time.clock (slot_boundaries b) k < x.end
   pub early : x.end ≤ b.time.horizon
@@ -94,7 +83,6 @@ read_at b k lt =
     let next : short_from b.time.clock bs (k + 1) ≡ short_from b.time.clock bs (suc k) = ap (short_from b.time.clock bs) (add-one k) in
     let used = start_at b.time.clock bs k + (boundary_at bs k).due + short_from b.time.clock bs (suc k) in
     record {
-      small = all_small b.time.clock xs b.time.horizon b.fair b.ordered b.bounded b.time.ranged k lt;
       ends = sym ends;
       wide = rw ends at at.wide;
       early = rw ends at at.early;
@@ -109,15 +97,24 @@ read_in b x k lt read =
     let P : Span → Type 0 = λ y. Read b y k in
     subst P (sym (get_or_read (vec_items b.spans) k x lt read _)) (read_at b k lt)
 
-pub book_small : (b : SlotBook) → AllSmall (vec_items b.spans)
-book_small b = all_small b.time.clock (vec_items b.spans) b.time.horizon b.fair b.ordered b.bounded b.time.ranged
-
-pub book_early : (b : SlotBook) (k : ℕ) → k < length (vec_items b.spans) → (span_at (vec_items b.spans) k).end ≤ 1000000
-book_early b k lt = omega (arith, (read_at b k lt).early, b.time.ranged)
-
 -- there are no more boundaries than a book may hold
 pub slot_few : (b : SlotBook) → length (slot_boundaries b) ≤ most_boundaries
 slot_few b =
     let same = length_dues b.time.clock (vec_items b.spans) in
     let few : length (vec_items b.spans) ≤ most_boundaries = search rules in
     omega arith
+
+-- what the intervals from a place on lack, from the record there if there is one
+pub lacking_told :
+    (b : SlotBook) (k n : ℕ) (xs : List Span) (o : Option (Bor Span)) (P : Bor Span → Type 0) → k ≤ vec_len b.spans → xs ≡ vec_items b.spans →
+    MatchOption o (length xs ≤ k) (λ x. (k < length xs) × HoldsAt (λ y. x.now ≡ y) xs k) →
+    MatchOption o (n ≡ 0) P →
+    ((x : Bor Span) → P x → pos n +ℤ int_min (pos 0) x.now.spare ≡ pos 0) →
+    n ≡ short_from b.time.clock (slot_boundaries b) k
+lacking_told b k n xs None P within same past none says =
+    let past' : length (vec_items b.spans) ≤ k = rw same at past in
+    let all : k ≡ length (slot_boundaries b) = omega (arith, length_dues b.time.clock (vec_items b.spans), b.spans.ok.0) in
+    none ∙ rw all (sym (short_all b.time.clock (slot_boundaries b)))
+lacking_told b k n xs (Some x) P within same held gave says =
+    let at = read_in b x.now k (rw same at held.0) (rw same at (held.1 x.now)) in
+    omega (arith, ints, clamps, at.lacks, at.spare, says x gave)

@@ -21,7 +21,7 @@ step_gain x (y ∷ xs) zero z lt = refl
 step_gain x (y ∷ []) (suc k) z lt = absurd (omega arith)
 step_gain x (y ∷ (w ∷ xs)) (suc k) z lt = ap (handed_on y.spare) (step_gain y (w ∷ xs) k z (omega arith))
 
-pub step :
+step :
     (xs : List Span) (k : ℕ) (z : ℤ) → suc k < length xs →
     carried xs (suc k) z
     ≡ carried (set xs (suc k) (with_more (span_at xs (suc k)) z)) k (handed_on (span_at xs (suc k)).spare z)
@@ -55,11 +55,29 @@ stop (x ∷ xs) (suc k) z lt none =
     let rest = stop xs k z (omega arith) none in
     rw (g, rest) (ap (λ y. y ∷ set xs k (with_more (span_at xs k) z)) (more_none x))
 
--- or at the first interval
-pub stop_first :
-    (xs : List Span) (z : ℤ) → 0 < length xs → carried xs 0 z ≡ set xs 0 (with_more (span_at xs 0) z)
-stop_first [] z lt = absurd (omega arith)
-stop_first (x ∷ xs) z lt = refl
+-- the change itself is made at place k, and no interval is lost
+pub carried_here :
+    (xs : List Span) (k : ℕ) (z : ℤ) → k < length xs → span_at (carried xs k z) k ≡ with_more (span_at xs k) z
+carried_here [] k z lt = absurd (omega arith)
+carried_here (x ∷ xs) zero z lt = refl
+carried_here (x ∷ xs) (suc k) z lt = carried_here xs k z (omega arith)
+
+pub length_carried : (xs : List Span) (k : ℕ) (z : ℤ) → length (carried xs k z) ≡ length xs
+length_carried [] k z = refl
+length_carried (x ∷ xs) zero z = refl
+length_carried (x ∷ xs) (suc k) z = ap suc (length_carried xs k z)
+
+-- what is still to carry over the first n intervals
+abbrev pub carried_left : List Span → ℕ → ℤ → List Span
+carried_left xs zero z = xs
+carried_left xs (suc k) z = carried xs k z
+
+pub carried_on :
+    (xs : List Span) (k : ℕ) (z : ℤ) → k < length xs →
+    carried xs k z ≡ carried_left (set xs k (with_more (span_at xs k) z)) k (handed_on (span_at xs k).spare z)
+carried_on [] k z lt = absurd (omega arith)
+carried_on (x ∷ xs) zero z lt = refl
+carried_on (x ∷ xs) (suc k) z lt = step (x ∷ xs) k z lt
 
 -- another demand at place k: the spares change as if the difference were carried back from there
 first_changed :

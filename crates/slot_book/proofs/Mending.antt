@@ -1,7 +1,7 @@
 -- One pass from the last interval to the first mends the spares for several slots.
-use Rattle.std.proofs.Common.{◌≡◌, ℕ, zero, suc, ◌+◌, ◌-◌, ◌<◌, ◌≤◌, List, [], ◌∷◌, length, get_or, set, ℤ, pos, ◌+ℤ◌, sym, refl, ap, ◌∙◌, ⊎_elim, arith, length-set}
+use Rattle.std.proofs.Common.{◌≡◌, ℕ, zero, suc, ◌+◌, ◌-◌, ◌<◌, ◌≤◌, List, [], ◌∷◌, length, get_or, set, ℤ, pos, ◌+ℤ◌, sym, refl, ap, ◌∙◌, subst, ⊎_elim, arith, length-set}
 use Rattle.std.specs.Int.{int_min}
-use Rattle.std.proofs.lemmas.List.{ext_get_or}
+use Rattle.std.proofs.lemmas.List.{ext_get_or, get_or_read}
 use Rattle.std.proofs.lemmas.Int.{ints, clamps}
 use Rattle.std.proofs.lemmas.Bool.{cases_lt}
 use Rattle.capacity.specs.declared.boundary.Boundary.{Boundary}
@@ -11,7 +11,6 @@ use Rattle.capacity.proofs.Noted.{length_unserved, end_unserved, due_unserved, s
 use Rattle.capacity.proofs.Suffixes.{short_from, short_at, short_all, spare_at, fits_at}
 use Rattle.slot_book.specs.Carry.{span_at}
 use Rattle.slot_book.specs.Mend.{start_of, Mendable}
-use Rattle.slot_book.specs.Small.{Small}
 use Rattle.slot_book.specs.Spans.{spans_of, dues_of}
 use Rattle.slot_book.specs.declared.span.Span.{Span}
 use Rattle.slot_book.proofs.Walking.{set_here, set_there}
@@ -47,14 +46,12 @@ mending_begins s t xs ns n all =
       less = λ lt. omega arith;
     }
 
--- what is known of the record whose turn it is, before it is mended
-pub record Turn (s t : ℕ) (ys : List Span) (q before due : ℕ) : Type 0 where
-  pub small : Small (span_at ys q).spare
-  pub wide : start_of s ys q ≤ (span_at ys q).end
-  pub wide_now : start_of t ys q ≤ (span_at ys q).end
-  pub early : (span_at ys q).end ≤ 1000000
-  pub fits : due + before ≤ (span_at ys q).end
-  pub law : (span_at ys q).spare +ℤ pos (start_of s ys q + due + before) ≡ pos (span_at ys q).end
+-- what is known of the record x whose turn it is, before it is mended
+pub record Turn (s t : ℕ) (ys : List Span) (q before due : ℕ) (x : Span) : Type 0 where
+  pub wide : start_of s ys q ≤ x.end
+  pub wide_now : start_of t ys q ≤ x.end
+  pub fits : due + before ≤ x.end
+  pub law : x.spare +ℤ pos (start_of s ys q + due + before) ≡ pos x.end
 
 -- starts are those of the records before
 starts_same :
@@ -72,7 +69,7 @@ now_wide s t (x ∷ xs) (suc q) m le lt = m.wide (suc q) lt
 
 turn_at :
     (s t : ℕ) (xs : List Span) (q : ℕ) → Mendable s xs → t ≤ first_end s (dues_of s xs) → q < length xs →
-    Turn s t xs q (short_from s (dues_of s xs) (suc q)) (boundary_at (dues_of s xs) q).due
+    Turn s t xs q (short_from s (dues_of s xs) (suc q)) (boundary_at (dues_of s xs) q).due (span_at xs q)
 turn_at s t xs q m le lt =
     let bs = dues_of s xs in
     let within : q < length bs = omega (arith, length_dues s xs) in
@@ -85,12 +82,9 @@ turn_at s t xs q m le lt =
     omega (arith, ints)
     in
     let wide = m.wide q lt in
-    let early = m.early q lt in
     record {
-      small = (omega (arith, ints), omega (arith, ints));
       wide = wide;
       wide_now = now_wide s t xs q m le lt;
-      early = early;
       fits = fits;
       law = law;
     }
@@ -99,17 +93,15 @@ pub turn :
     (s t : ℕ) (xs ys : List Span) (ns : List ℕ) (q before after : ℕ) → Mending s t xs ys ns (suc q) before after →
     Mendable s xs →
     t ≤ first_end s (dues_of s xs) →
-    Turn s t ys q before (boundary_at (dues_of s xs) q).due
+    Turn s t ys q before (boundary_at (dues_of s xs) q).due (span_at ys q)
 turn s t xs ys ns q before after g m le =
     let at = turn_at s t xs q m le (omega (arith, g.within)) in
     let same = g.untouched q (omega arith) in
     let old = starts_same s t xs ys ns q before after s g in
     let new = starts_same s t xs ys ns q before after t g in
     record {
-      small = rw same at.small;
       wide = rw (same, old) at.wide;
       wide_now = rw (same, new) at.wide_now;
-      early = rw same at.early;
       fits = rw (same, g.was) at.fits;
       law = rw (same, old, g.was) at.law;
     }
@@ -177,7 +169,7 @@ starts_agree s t ys (suc q) lt = refl
 pub mends :
     (s t : ℕ) (xs ys : List Span) (ns : List ℕ) (q before after : ℕ) (r : Span) (before' after' : ℕ) →
     Mending s t xs ys ns (suc q) before after →
-    Turn s t ys q before (boundary_at (dues_of s xs) q).due →
+    Turn s t ys q before (boundary_at (dues_of s xs) q).due (span_at ys q) →
     r.end ≡ (span_at ys q).end →
     r.spare +ℤ pos (start_of t ys q + (((boundary_at (dues_of s xs) q).due - get_or ns q 0) + after)) ≡ pos (span_at ys q).end →
     pos before' +ℤ int_min (pos 0) (span_at ys q).spare ≡ pos 0 →
@@ -226,41 +218,54 @@ mending_ends s t xs ys ns p before after g all =
     ext_get_or (record { end = 0; spare = pos 0 }) ys (spans_of t bs') lengths
     (λ k lt. g.done k (omega arith) (omega (arith, g.lengths)))
 
--- the same of the interval before a place
+-- the same of the interval before a place, of which x is the record as it was read
 pub turn_before :
-    (s t : ℕ) (xs ys : List Span) (ns : List ℕ) (p before after : ℕ) → Mending s t xs ys ns p before after → 0 < p →
+    (s t : ℕ) (xs ys : List Span) (ns : List ℕ) (p before after : ℕ) (x : Span) → Mending s t xs ys ns p before after →
+    0 < p →
+    x ≡ get_or ys (p - 1) x →
     Mendable s xs →
     t ≤ first_end s (dues_of s xs) →
-    Turn s t ys (p - 1) before (boundary_at (dues_of s xs) (p - 1)).due
-turn_before s t xs ys ns zero before after g lt m le = absurd (omega arith)
-turn_before s t xs ys ns (suc q) before after g lt m le =
-    let e : suc q - 1 ≡ q = omega arith in rw e (turn s t xs ys ns q before after g m le)
+    Turn s t ys (p - 1) before (boundary_at (dues_of s xs) (p - 1)).due x
+turn_before s t xs ys ns zero before after x g lt read m le = absurd (omega arith)
+turn_before s t xs ys ns (suc q) before after x g lt read m le =
+    let e : suc q - 1 ≡ q = omega arith in
+    let held : x ≡ span_at ys q = get_or_read ys q x (omega (arith, g.within, g.lengths)) (rw e at read) _ in
+    let P : Span → Type 0 = λ y. Turn s t ys q before (boundary_at (dues_of s xs) q).due y in
+    rw e (subst P (sym held) (turn s t xs ys ns q before after g m le))
 
 pub mends_before :
-    (s t : ℕ) (xs ys : List Span) (ns : List ℕ) (p before after left : ℕ) (r : Span) (before' after' : ℕ) →
+    (s t : ℕ) (xs ys : List Span) (ns : List ℕ) (p before after left : ℕ) (x r : Span) (before' after' : ℕ) →
     Mending s t xs ys ns p before after →
     0 < p →
-    Turn s t ys (p - 1) before (boundary_at (dues_of s xs) (p - 1)).due →
+    x ≡ get_or ys (p - 1) x →
+    Turn s t ys (p - 1) before (boundary_at (dues_of s xs) (p - 1)).due x →
     left ≡ (boundary_at (dues_of s xs) (p - 1)).due - get_or ns (p - 1) 0 →
-    r.end ≡ (span_at ys (p - 1)).end →
-    r.spare +ℤ pos (start_of t ys (p - 1) + (left + after)) ≡ pos (span_at ys (p - 1)).end →
-    pos before' +ℤ int_min (pos 0) (span_at ys (p - 1)).spare ≡ pos 0 →
+    r.end ≡ x.end →
+    r.spare +ℤ pos (start_of t ys (p - 1) + (left + after)) ≡ pos x.end →
+    pos before' +ℤ int_min (pos 0) x.spare ≡ pos 0 →
     pos after' +ℤ int_min (pos 0) r.spare ≡ pos 0 →
     Mending s t xs (set ys (p - 1) r) ns (p - 1) before' after'
-mends_before s t xs ys ns zero before after left r before' after' g lt at due ends spare was is = absurd (omega arith)
-mends_before s t xs ys ns (suc q) before after left r before' after' g lt at due ends spare was is =
+mends_before s t xs ys ns zero before after left x r before' after' g lt read at due ends spare was is = absurd (omega arith)
+mends_before s t xs ys ns (suc q) before after left x r before' after' g lt read at due ends spare was is =
     let e : suc q - 1 ≡ q = omega arith in
+    let held : x ≡ span_at ys q = get_or_read ys q x (omega (arith, g.within, g.lengths)) (rw e at read) _ in
     rw e
-    (mends s t xs ys ns q before after r before' after' g (rw e at at) (rw e at ends) (rw (due, e) at spare) (rw e at was) is)
+    (mends s t xs ys ns q before after r before' after' g (rw (e, held) at at) (rw held at ends) (rw (e, held) at (rw due at spare))
+    (rw held at was) is)
 
 -- what is left of a demand, worked out from the spare, and what is then used of the interval
+pub record Left (x : Span) (before due used left n after : ℕ) : Type 0 where
+  pub taken : before ≤ used
+  pub less : left ≡ due - n
+  pub fits : left + after ≤ x.end
+
 pub left_is :
-    (s t : ℕ) (ys : List Span) (q before due : ℕ) (start used left n after : ℕ) → Turn s t ys q before due →
+    (s t : ℕ) (ys : List Span) (q before due : ℕ) (x : Span) (start used left n after : ℕ) → Turn s t ys q before due x →
     start ≡ start_of s ys q →
-    (span_at ys q).spare +ℤ pos (start + used) ≡ pos (span_at ys q).end →
+    x.spare +ℤ pos (start + used) ≡ pos x.end →
     left ≡ used - before - n →
     after ≤ before →
-    (left ≡ due - n) × (left + after ≤ (span_at ys q).end)
-left_is s t ys q before due start used left n after at starts uses lefts less =
+    Left x before due used left n after
+left_is s t ys q before due x start used left n after at starts uses lefts less =
     let whole : used ≡ due + before = omega (arith, ints, at.law) in
-    (omega arith, omega (arith, at.fits))
+    record { taken = omega arith; less = omega arith; fits = omega (arith, at.fits) }

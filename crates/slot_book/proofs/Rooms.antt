@@ -1,7 +1,7 @@
 -- The sum of what intervals have free, one interval after the other.
-use Rattle.std.proofs.Common.{◌≡◌, ℕ, zero, suc, ◌+◌, ◌-◌, ◌<◌, ◌≤◌, cond, leb, List, [], ◌∷◌, length, get_or, drop, pos, ◌-ℤ◌, vec_items, sym, refl, ◌∙◌, add-one, arith}
+use Rattle.std.proofs.Common.{◌≡◌, ℕ, zero, suc, ◌+◌, ◌<◌, ◌≤◌, cond, leb, List, [], ◌∷◌, length, get_or, drop, pos, ◌-ℤ◌, vec_items, sym, refl, ap, ◌∙◌, add-one, arith}
 use Rattle.std.specs.Int.{int_min}
-use Rattle.std.proofs.lemmas.Int.{ints}
+use Rattle.std.proofs.lemmas.List.{get_or_read}
 use Rattle.std.proofs.lemmas.Bool.{le-leb, lt-leb}
 use Rattle.capacity.specs.declared.boundary.Boundary.{Boundary}
 use Rattle.capacity.specs.Intervals.{boundary_at, start_at}
@@ -11,6 +11,7 @@ use Rattle.capacity.proofs.Suffixes.{room_from_le, start_next}
 use Rattle.slot_book.specs.Carry.{span_at}
 use Rattle.slot_book.specs.Slot.{slot_meaning, slot_boundaries}
 use Rattle.slot_book.specs.declared.slot.SlotBook.{SlotBook}
+use Rattle.slot_book.specs.declared.span.Span.{Span}
 use Rattle.slot_book.proofs.Books.{length_dues, end_told, spare_told}
 
 -- the headroom at d from the interval at place k on
@@ -54,45 +55,50 @@ own_spare b k = spare_told b.time.clock (vec_items b.spans) k b.fair
 within : (b : SlotBook) (k : ℕ) → k < length (vec_items b.spans) → k < length (slot_boundaries b)
 within b k lt = omega (arith, length_dues b.time.clock (vec_items b.spans))
 
--- d lies in the interval at place k: only what lies before it counts
-pub sum_ends :
-    (b : SlotBook) (d k start room : ℕ) → Summed b d k start room → k < length (vec_items b.spans) →
-    d ≤ (span_at (vec_items b.spans) k).end →
-    room + positive_part (int_min (pos (d - start)) (span_at (vec_items b.spans) k).spare) ≡ headroom (slot_meaning b) d
-sum_ends b d k start room so lt le =
-    let bs = slot_boundaries b in
-    let turn = headroom_turn b.time.clock bs k d (within b k lt) in
-    let inside = le-leb d (boundary_at bs k).end (omega (arith, own_end b k)) in
-    let width : pos (d - start) ≡ pos d -ℤ pos (start_at b.time.clock bs k) = omega (arith, ints, so.before, so.starts) in
-    let here : headroom_at b.time.clock bs k d ≡ positive_part (int_min (pos (d - start)) (span_at (vec_items b.spans) k).spare) =
-    rw (width, own_spare b k) (turn ∙ rw inside refl)
-    in
-    omega (arith, so.sum)
+-- a turn: y is the record at place k, as it was read, and x the same
+module _ (b : SlotBook) (d k start room : ℕ) (x y : Span) (lent : List Span) (so : Summed b d k start room) (lt : k < length lent) (same : lent ≡ vec_items b.spans) (view : x ≡ y) (read : y ≡ get_or lent k y) where
+  inside : k < length (vec_items b.spans)
+  inside = rw same at lt
 
--- d lies behind it: all that it has free counts
-pub sum_more :
-    (b : SlotBook) (d k start room : ℕ) → Summed b d k start room → k < length (vec_items b.spans) →
-    (span_at (vec_items b.spans) k).end < d →
-    Summed b d (k + 1) (span_at (vec_items b.spans) k).end (room + positive_part (span_at (vec_items b.spans) k).spare)
-sum_more b d k start room so lt past =
-    let bs = slot_boundaries b in
-    let turn = headroom_turn b.time.clock bs k d (within b k lt) in
-    let outside = lt-leb d (boundary_at bs k).end (omega (arith, own_end b k)) in
-    let here : headroom_at b.time.clock bs k d
-    ≡ positive_part (span_at (vec_items b.spans) k).spare + headroom_at b.time.clock bs (suc k) d =
-    rw (own_spare b k) (turn ∙ rw outside refl)
-    in
-    let next : k + 1 ≡ suc k = add-one k in
-    record {
-      starts = rw next (sym (own_end b k) ∙ sym (start_next b.time.clock bs k (within b k lt)));
-      before = past;
-      sum = rw next (omega (arith, so.sum));
-    }
+  held : x ≡ span_at (vec_items b.spans) k
+  held = view ∙ get_or_read (vec_items b.spans) k y inside (rw same at read) _
+
+  ends : (boundary_at (slot_boundaries b) k).end ≡ x.end
+  ends = own_end b k ∙ ap (λ z. z.end) (sym held)
+
+  -- d lies in this interval: only what lies before it counts
+  pub sum_ends : d ≤ x.end → room + positive_part (int_min (pos d -ℤ pos start) x.spare) ≡ headroom (slot_meaning b) d
+  sum_ends le =
+      let bs = slot_boundaries b in
+      let turn = headroom_turn b.time.clock bs k d (within b k inside) in
+      let before = le-leb d (boundary_at bs k).end (omega (arith, ends)) in
+      let here : headroom_at b.time.clock bs k d ≡ positive_part (int_min (pos d -ℤ pos start) x.spare) =
+      rw (so.starts, held, own_spare b k) (turn ∙ rw before refl)
+      in
+      omega (arith, so.sum)
+
+  -- d lies behind it: all that it has free counts
+  pub sum_more : x.end < d → Summed b d (k + 1) x.end (room + positive_part x.spare)
+  sum_more past =
+      let bs = slot_boundaries b in
+      let turn = headroom_turn b.time.clock bs k d (within b k inside) in
+      let outside = lt-leb d (boundary_at bs k).end (omega (arith, ends)) in
+      let here : headroom_at b.time.clock bs k d ≡ positive_part x.spare + headroom_at b.time.clock bs (suc k) d =
+      rw (held, own_spare b k) (turn ∙ rw outside refl)
+      in
+      let next : k + 1 ≡ suc k = add-one k in
+      record {
+        starts = rw next (sym ends ∙ sym (start_next b.time.clock bs k (within b k inside)));
+        before = past;
+        sum = rw next (omega (arith, so.sum));
+      }
 
 pub sum_all :
-    (b : SlotBook) (d k start room : ℕ) → Summed b d k start room → length (vec_items b.spans) ≤ k →
+    (b : SlotBook) (d k start room : ℕ) (lent : List Span) → Summed b d k start room → length lent ≤ k →
+    lent ≡ vec_items b.spans →
     room ≡ headroom (slot_meaning b) d
-sum_all b d k start room so past =
+sum_all b d k start room lent so past same =
+    let past' : length (vec_items b.spans) ≤ k = rw same at past in
     omega (
       arith,
       so.sum,

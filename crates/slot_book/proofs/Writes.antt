@@ -1,5 +1,5 @@
 -- What the changes of a slot-by-slot book keep.
-use Rattle.std.proofs.Common.{◌≡◌, ℕ, None, Some, Bool, false, eqb, ◌+◌, ◌-◌, ◌<◌, ◌≤◌, true, ltb, leb, List, length, get_or, set, ℤ, pos, negsuc, ◌+ℤ◌, ◌-ℤ◌, vec_items, Vec, sym, refl, ap, ◌∙◌, arith, length-set}
+use Rattle.std.proofs.Common.{◌≡◌, ℕ, None, Bool, false, eqb, ◌+◌, ◌-◌, ◌<◌, ◌≤◌, true, [], ◌∷◌, ltb, leb, List, length, get_or, set, ℤ, pos, negsuc, ◌+ℤ◌, ◌-ℤ◌, vec_items, vec_len, Vec, sym, refl, ap, ◌∙◌, arith, length-set}
 use Rattle.std.specs.Vec.{with_items}
 use Rattle.std.specs.List.{insert}
 use Rattle.std.specs.declared.alloc.Global.{Global}
@@ -21,17 +21,19 @@ use Rattle.capacity.proofs.Least.{rises_le}
 use Rattle.capacity.proofs.Naturals.{headroom_is_room}
 use Rattle.capacity.proofs.Noted.{first_end_unserved, rises_unserved, short_unserved}
 use Rattle.capacity.proofs.Passing.{some_left, first_end_of, within_first}
-use Rattle.capacity.proofs.Places.{place_inside, start_before}
+use Rattle.capacity.proofs.Places.{stands, ends_rise, place_inside, start_before}
 use Rattle.capacity.proofs.Slots.{boundary_within}
 use Rattle.capacity.proofs.Suffixes.{placed_at, room_from_le}
-use Rattle.slot_book.specs.Carry.{carried, span_at, with_more}
+use Rattle.slot_book.specs.Carry.{AllSmall, carried, span_at, with_more}
+use Rattle.slot_book.specs.Due.{with_due_at}
 use Rattle.slot_book.specs.Mend.{Mendable}
 use Rattle.slot_book.specs.Slot.{slot_meaning, slot_boundaries}
 use Rattle.slot_book.specs.Spans.{spans_of, dues_of, later_spans}
+use Rattle.slot_book.specs.Small.{Small}
 use Rattle.slot_book.specs.Split.{left_of, right_of}
 use Rattle.slot_book.specs.declared.slot.SlotBook.{SlotBook}
 use Rattle.slot_book.specs.declared.span.Span.{Span}
-use Rattle.slot_book.proofs.Books.{length_dues, start_told, read_at, book_early}
+use Rattle.slot_book.proofs.Books.{length_dues, start_told, read_at, read_in, all_small}
 use Rattle.slot_book.proofs.Carrying.{spans_changed}
 use Rattle.slot_book.proofs.Correspond.{Sound, sound, told}
 use Rattle.slot_book.proofs.Passing.{spans_narrower, spans_served, spans_later}
@@ -51,6 +53,31 @@ tell s h ys bs is ordered bounded =
       means = ap (λ xs. record { clock = s; horizon = h; boundaries = xs }) (told s bs ys is);
     }
 
+pub tells_small : (b : SlotBook) (ys : List Span) (m : Meaning) → Tells b.time.clock b.time.horizon ys m → AllSmall ys
+tells_small b ys m t = all_small b.time.clock ys b.time.horizon t.keeps b.time.ranged
+
+-- the boundary at a place, as it is known by its end
+pub stands_at :
+    (b : SlotBook) (k : ℕ) → k < length (slot_boundaries b) →
+    Stands (slot_boundaries b) (boundary_at (slot_boundaries b) k).end k
+stands_at b k within =
+    stands (slot_boundaries b) _ k
+    (λ j lt. ends_rise b.time.clock (slot_boundaries b) b.time.horizon j k b.ordered lt within) within refl
+
+-- where d stands, the demand at its place is the demand at d
+pub due_by_place : {bs : List Boundary} {d k : ℕ} → Stands bs d k → (c : ℕ) → with_due_at bs k c ≡ with_due bs d c
+due_by_place at c = rw at.ends (sym (at.sets c))
+
+pub less_due :
+    {bs : List Boundary} {d k : ℕ} → Stands bs d k → (c : ℕ) →
+    with_due_at bs k ((boundary_at bs k).due - c) ≡ with_due bs d (due_at bs d - c)
+less_due {bs} {d} {k} at c = due_by_place at _ ∙ ap (λ n. with_due bs d (n - c)) at.owes
+
+pub more_due :
+    {bs : List Boundary} {d k : ℕ} → Stands bs d k → (c : ℕ) →
+    with_due_at bs k ((boundary_at bs k).due + c) ≡ with_due bs d (due_at bs d + c)
+more_due {bs} {d} {k} at c = due_by_place at _ ∙ ap (λ n. with_due bs d (n + c)) at.owes
+
 -- the records after a walk over all of them
 pub carried_items :
     (v : Vec Span Global) (ws lent : List Span) (k : ℕ) (z change : ℤ) → length ws ≡ v.len → ws ≡ carried lent k z →
@@ -60,46 +87,68 @@ pub carried_items :
 carried_items v ws lent k z change whole after amount was =
     with_items_is v ws whole ∙ after ∙ ap (carried lent k) amount ∙ ap (λ xs. carried xs k change) was
 
--- another demand at a boundary
-pub due_changed :
-    (b : SlotBook) (d k c : ℕ) (z : ℤ) (ys : List Span) → Stands (slot_boundaries b) d k →
-    z +ℤ pos c ≡ pos (due_at (slot_boundaries b) d) →
-    short b.time.clock (with_due (slot_boundaries b) d c) ≤ b.time.clock →
+-- another demand at a place
+due_changed :
+    (b : SlotBook) (k c : ℕ) (z : ℤ) (ys : List Span) → k < length (slot_boundaries b) →
+    z +ℤ pos c ≡ pos (boundary_at (slot_boundaries b) k).due →
+    short b.time.clock (with_due_at (slot_boundaries b) k c) ≤ b.time.clock →
     ys ≡ carried (vec_items b.spans) k z →
-    Tells b.time.clock b.time.horizon ys (with_boundaries (slot_meaning b) (with_due (slot_boundaries b) d c))
-due_changed b d k c z ys at law bounded is =
+    Tells b.time.clock b.time.horizon ys (with_boundaries (slot_meaning b) (with_due_at (slot_boundaries b) k c))
+due_changed b k c z ys within law bounded is =
     let bs = slot_boundaries b in
-    let owes : z +ℤ pos c ≡ pos (boundary_at bs k).due = rw at.owes law in
-    let all = spans_changed b.time.clock bs k c z at.within owes in
-    let ends : set bs k (record { end = (boundary_at bs k).end; due = c }) ≡ with_due bs d c = rw at.ends (sym (at.sets c)) in
-    let new : ys ≡ spans_of b.time.clock (with_due bs d c) =
-    is ∙ ap (λ xs. carried xs k z) (sym b.fair) ∙ sym all ∙ ap (spans_of b.time.clock) ends
+    let at = stands_at b k within in
+    let new : ys ≡ spans_of b.time.clock (with_due_at bs k c) =
+    is ∙ ap (λ xs. carried xs k z) (sym b.fair) ∙ sym (spans_changed b.time.clock bs k c z within law)
     in
-    tell b.time.clock b.time.horizon ys (with_due bs d c) new
-    (rises_with_due b.time.clock bs b.time.horizon d c b.ordered) bounded
+    tell b.time.clock b.time.horizon ys (with_due_at bs k c) new
+    (rw (sym (due_by_place at c)) at (rises_with_due b.time.clock bs b.time.horizon (boundary_at bs k).end c b.ordered)) bounded
 
 pub forgiven :
-    (b : SlotBook) (d k c : ℕ) (ys : List Span) → Stands (slot_boundaries b) d k → c ≤ due_at (slot_boundaries b) d →
+    (b : SlotBook) (k c : ℕ) (ys : List Span) → k < length (slot_boundaries b) →
+    c ≤ (boundary_at (slot_boundaries b) k).due →
     ys ≡ carried (vec_items b.spans) k (pos c) →
     Tells b.time.clock b.time.horizon ys
-    (with_boundaries (slot_meaning b) (with_due (slot_boundaries b) d (due_at (slot_boundaries b) d - c)))
-forgiven b d k c ys at le is =
+    (with_boundaries (slot_meaning b) (with_due_at (slot_boundaries b) k ((boundary_at (slot_boundaries b) k).due - c)))
+forgiven b k c ys within le is =
     let bs = slot_boundaries b in
-    let less = short_with_less b.time.clock bs d (due_at bs d - c) (omega arith) in
-    due_changed b d k (due_at bs d - c) (pos c) ys at (ap pos (omega arith)) (omega (arith, b.bounded)) is
+    let at = stands_at b k within in
+    let left = (boundary_at bs k).due - c in
+    let less = short_with_less b.time.clock bs (boundary_at bs k).end left (omega (arith, at.owes)) in
+    due_changed b k left (pos c) ys within (ap pos (omega arith))
+    (rw (due_by_place at left) (omega (arith, less, b.bounded))) is
+
+pub owed :
+    (b : SlotBook) (k c : ℕ) (ys : List Span) → k < length (slot_boundaries b) →
+    c ≤ headroom (slot_meaning b) (boundary_at (slot_boundaries b) k).end →
+    ys ≡ carried (vec_items b.spans) k (pos 0 -ℤ pos c) →
+    Tells b.time.clock b.time.horizon ys
+    (with_boundaries (slot_meaning b) (with_due_at (slot_boundaries b) k ((boundary_at (slot_boundaries b) k).due + c)))
+owed b k c ys within fits is =
+    let bs = slot_boundaries b in
+    let d = (boundary_at bs k).end in
+    let at = stands_at b k within in
+    let more = (boundary_at bs k).due + c in
+    let after = boundary_later b.time.clock bs b.time.horizon d b.ordered at.held in
+    let room = headroom_is_room b.time.clock bs b.time.horizon d b.ordered (omega arith) in
+    let takes = rw (sym at.owes) at (short_with_more b.time.clock bs b.time.horizon d c b.ordered at.held) in
+    due_changed b k more (pos 0 -ℤ pos c) ys within (omega (arith, ints))
+    (rw (due_by_place at more) (omega (arith, takes, b.bounded))) is
 
 -- what is due at a boundary, and the headroom, are small
 pub due_small :
-    (b : SlotBook) (d k c : ℕ) → Stands (slot_boundaries b) d k → c ≤ due_at (slot_boundaries b) d → c ≤ 1000000
-due_small b d k c at le =
-    let placed = placed_at b.time.clock (slot_boundaries b) b.time.horizon k b.ordered b.bounded at.within in
-    omega (arith, at.owes, placed.fits, placed.early, b.time.ranged)
+    (b : SlotBook) (k c : ℕ) → k < length (slot_boundaries b) → c ≤ (boundary_at (slot_boundaries b) k).due → c ≤ 1000000
+due_small b k c within le =
+    let placed = placed_at b.time.clock (slot_boundaries b) b.time.horizon k b.ordered b.bounded within in
+    omega (arith, placed.fits, placed.early, b.time.ranged)
 
 pub room_small :
-    (b : SlotBook) (d k c : ℕ) → Stands (slot_boundaries b) d k → c ≤ headroom (slot_meaning b) d → c ≤ 1000000
-room_small b d k c at le =
+    (b : SlotBook) (k c : ℕ) → k < length (slot_boundaries b) →
+    c ≤ headroom (slot_meaning b) (boundary_at (slot_boundaries b) k).end →
+    c ≤ 1000000
+room_small b k c within le =
     let bs = slot_boundaries b in
-    let after = boundary_later b.time.clock bs b.time.horizon d b.ordered at.held in
+    let d = (boundary_at bs k).end in
+    let after = boundary_later b.time.clock bs b.time.horizon d b.ordered (stands_at b k within).held in
     omega (
       arith,
       headroom_is_room b.time.clock bs b.time.horizon d b.ordered (omega arith),
@@ -107,23 +156,11 @@ room_small b d k c at le =
       b.time.ranged,
     )
 
-pub owed :
-    (b : SlotBook) (d k c : ℕ) (ys : List Span) → Stands (slot_boundaries b) d k → c ≤ headroom (slot_meaning b) d →
-    ys ≡ carried (vec_items b.spans) k (pos 0 -ℤ pos c) →
-    Tells b.time.clock b.time.horizon ys
-    (with_boundaries (slot_meaning b) (with_due (slot_boundaries b) d (due_at (slot_boundaries b) d + c)))
-owed b d k c ys at fits is =
-    let bs = slot_boundaries b in
-    let after = boundary_later b.time.clock bs b.time.horizon d b.ordered at.held in
-    let room = headroom_is_room b.time.clock bs b.time.horizon d b.ordered (omega arith) in
-    let more = short_with_more b.time.clock bs b.time.horizon d c b.ordered at.held in
-    due_changed b d k (due_at bs d + c) (pos 0 -ℤ pos c) ys at (omega (arith, ints)) (omega (arith, b.bounded)) is
-
 -- where a new boundary lies: in an interval of the book, behind its start
 pub record Inside (b : SlotBook) (d i : ℕ) : Type 0 where
-  pub place : i < length (vec_items b.spans)
+  pub place : i < vec_len b.spans
   pub start : start_at b.time.clock (slot_boundaries b) i ≤ d
-  pub early : d ≤ 1000000
+  pub early : d ≤ (boundary_at (slot_boundaries b) i).end
 
 pub inside :
     (b : SlotBook) (d i : ℕ) → Lacks (slot_boundaries b) d i → to_come (slot_meaning b) d ≡ true → Inside b d i
@@ -135,10 +172,24 @@ inside b d i at coming =
     let place = place_inside b.time.clock bs b.time.horizon d i b.ordered after within at.before at.within in
     let start = start_before b.time.clock bs d i after at.before at.within in
     record {
-      place = omega (arith, length_dues b.time.clock (vec_items b.spans));
+      place = omega (arith, length_dues b.time.clock (vec_items b.spans), b.spans.ok.0);
       start = omega arith;
-      early = omega (arith, b.time.ranged);
+      early = omega (arith, at.behind place);
     }
+
+-- what is left behind it can be spared
+pub split_small :
+    (b : SlotBook) (d i s : ℕ) (x : Span) → Inside b d i → s ≡ start_at b.time.clock (slot_boundaries b) i →
+    x ≡ get_or (vec_items b.spans) i x →
+    ((s ≤ d) × (d ≤ x.end)) × Small (x.spare -ℤ (pos d -ℤ pos s))
+split_small b d i s x in-it starts read =
+    let at = read_in b x i (omega (arith, in-it.place, b.spans.ok.0)) read in (
+      (omega (arith, in-it.start), omega (arith, in-it.early, at.ends)),
+      (
+        omega (arith, ints, at.spare, at.fits, at.early, at.ends, in-it.start, in-it.early, b.time.ranged),
+        omega (arith, ints, at.spare, at.fits, at.early, at.ends, in-it.start, in-it.early, b.time.ranged),
+      ),
+    )
 
 pub split_at :
     (b : SlotBook) (d i s : ℕ) (x left right : Span) (ys : List Span) → Lacks (slot_boundaries b) d i →
@@ -156,9 +207,10 @@ split_at b d i s x left right ys at coming starts read lefts rights is =
     let parts = and_parts (ltb b.time.clock d) (leb d b.time.horizon) coming in
     let after = ltb-true b.time.clock d parts.0 in
     let within = leb-true d b.time.horizon parts.1 in
-    let held : x ≡ span_at xs i = get_or_read xs i x in-it.place read _ in
+    let place : i < length xs = omega (arith, in-it.place, b.spans.ok.0) in
+    let held : x ≡ span_at xs i = get_or_read xs i x place read _ in
     let all =
-    rw (sym starts) at (spans_split b.time.clock bs i d (omega (arith, in-it.place, length_dues b.time.clock xs)) in-it.start)
+    rw (sym starts) at (spans_split b.time.clock bs i d (omega (arith, length_dues b.time.clock xs)) in-it.start)
     in
     let new : ys ≡ spans_of b.time.clock (with_boundary bs d) =
     is
@@ -211,6 +263,17 @@ pub not_refused :
     eqb b.time.clock b.time.horizon ≡ false
 not_refused b says = taken (eqb b.time.clock b.time.horizon) says
 
+pub passing_small :
+    (b : SlotBook) (x : Span) → eqb b.time.clock b.time.horizon ≡ false → x ≡ get_or (vec_items b.spans) 0 x →
+    Small (x.spare +ℤ negsuc 0)
+passing_small b x before read =
+    let apart = eqb-false b.time.clock b.time.horizon before in
+    let left = slot_to_come b apart in
+    let at = read_in b x 0 (some_span b apart) read in (
+      omega (arith, ints, at.spare, at.fits, at.early, b.time.ranged),
+      omega (arith, ints, at.spare, at.early, b.time.ranged),
+    )
+
 pub passes_none :
     (b : SlotBook) (x r : Span) (ys : List Span) (s h : ℕ) → eqb b.time.clock b.time.horizon ≡ false → x ≡ get_or (vec_items b.spans) 0 x →
     r ≡ with_more x (negsuc 0) →
@@ -234,27 +297,42 @@ passes_none b x r ys s h before read less is starts ends =
     (starts, ends)
     (passes b bs ys (set xs 0 r) (slot_to_come b apart) some-bs b.ordered b.bounded narrow (rw starts at is))
 
+-- something is due at the first boundary only if there is one
+owes_some : (bs : List Boundary) → 1 ≤ (boundary_at bs 0).due → 0 < length bs
+owes_some [] due = absurd (omega arith)
+owes_some (b ∷ bs) due = omega arith
+
+pub first_owes :
+    (b : SlotBook) → 1 ≤ (boundary_at (slot_boundaries b) 0).due →
+    Stands (slot_boundaries b) (boundary_at (slot_boundaries b) 0).end 0
+first_owes b due = stands_at b 0 (owes_some (slot_boundaries b) due)
+
+-- and then a slot is left
+pub first_later : (b : SlotBook) → 1 ≤ (boundary_at (slot_boundaries b) 0).due → b.time.clock + 1 ≤ b.time.horizon
+first_later b due =
+    let held = (first_owes b due).held in
+    let after = boundary_later b.time.clock (slot_boundaries b) b.time.horizon _ b.ordered held in
+    let within = boundary_within b.time.clock (slot_boundaries b) b.time.horizon _ b.ordered held in
+    omega arith
+
 pub passes_first :
-    (b : SlotBook) (d : ℕ) (ys : List Span) → Stands (slot_boundaries b) d 0 → 1 ≤ due_at (slot_boundaries b) d →
+    (b : SlotBook) (ys : List Span) → 1 ≤ (boundary_at (slot_boundaries b) 0).due →
     ys ≡ later_spans (b.time.clock + 1) (vec_items b.spans) →
-    Tells (b.time.clock + 1) b.time.horizon ys (passed (slot_meaning b) (Some d))
-passes_first b d ys at owed is =
+    Tells (b.time.clock + 1) b.time.horizon ys
+    (passed (with_boundaries (slot_meaning b) (with_due_at (slot_boundaries b) 0 ((boundary_at (slot_boundaries b) 0).due - 1))) None)
+passes_first b ys due is =
     let bs = slot_boundaries b in
     let xs = vec_items b.spans in
-    let c = due_at bs d - 1 in
-    let after = boundary_later b.time.clock bs b.time.horizon d b.ordered at.held in
-    let within = boundary_within b.time.clock bs b.time.horizon d b.ordered at.held in
-    let due : 1 ≤ (boundary_at bs 0).due = omega (arith, at.owes) in
-    let same : with_due bs d c ≡ set bs 0 (record { end = (boundary_at bs 0).end; due = (boundary_at bs 0).due - 1 }) =
-    at.sets c ∙ rw (at.ends, at.owes) refl
-    in
-    let some : 0 < length (with_due bs d c) = rw (at.sets c) (simp length-set at.within) in
-    let narrow : xs ≡ spans_of (b.time.clock + 1) (with_due bs d c) =
-    sym b.fair ∙ sym (spans_served b.time.clock bs at.within due) ∙ ap (spans_of (b.time.clock + 1)) (sym same)
-    in
-    let less = short_with_less b.time.clock bs d c (omega arith) in
-    passes b (with_due bs d c) ys xs (omega arith) some (rises_with_due b.time.clock bs b.time.horizon d c b.ordered)
-    (omega (arith, b.bounded)) narrow is
+    let d = (boundary_at bs 0).end in
+    let c = (boundary_at bs 0).due - 1 in
+    let at = first_owes b due in
+    let same = due_by_place at c in
+    let some : 0 < length (with_due_at bs 0 c) = simp length-set at.within in
+    let narrow : xs ≡ spans_of (b.time.clock + 1) (with_due_at bs 0 c) = sym b.fair ∙ sym (spans_served b.time.clock bs at.within due) in
+    let less = short_with_less b.time.clock bs d c (omega (arith, at.owes)) in
+    passes b (with_due_at bs 0 c) ys xs (omega (arith, first_later b due)) some
+    (rw same (rises_with_due b.time.clock bs b.time.horizon d c b.ordered))
+    (rw same (omega (arith, less, b.bounded))) narrow is
 
 -- several slots of the first interval pass at once
 pub catches_up :
@@ -281,7 +359,6 @@ mendable b =
       fair = b.fair;
       bounded = b.bounded;
       wide = λ k lt. omega (arith, (read_at b k lt).wide, start_told b.time.clock xs k (omega arith));
-      early = book_early b;
     }
 
 -- the records after mending all of them

@@ -1,6 +1,5 @@
 -- What mending several slots at once asks of the records, and the starts of their intervals.
 use Rattle.std.specs.Prelude.{◌≡◌, ℕ, zero, suc, ◌<◌, ◌≤◌, List, length}
-use Rattle.terms.specs.Limits.{longest_horizon}
 use Rattle.capacity.specs.Shortage.{short}
 use Rattle.slot_book.specs.Carry.{span_at}
 use Rattle.slot_book.specs.Spans.{spans_of, dues_of}
@@ -16,4 +15,3 @@ pub record Mendable (s : ℕ) (xs : List Span) : Type 0 where
   pub fair : spans_of s (dues_of s xs) ≡ xs
   pub bounded : short s (dues_of s xs) ≤ s
   pub wide : (k : ℕ) → k < length xs → start_of s xs k ≤ (span_at xs k).end
-  pub early : (k : ℕ) → k < length xs → (span_at xs k).end ≤ longest_horizon

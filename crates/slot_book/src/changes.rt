@@ -1,10 +1,12 @@
 // What the calls of the slot-by-slot book do to its records. Each is told by the demands that the new spares tell.
-ghost use Rattle.std.specs.Prelude.{◌≡◌, ◌+◌, ◌-◌, ◌<◌, ◌≤◌, true, Some, None, vec_len, vec_capacity};
+ghost use Rattle.std.specs.Prelude.{◌≡◌, ◌+◌, ◌-◌, ◌<◌, ◌≤◌, true, Some, None, length, vec_len, vec_capacity};
 ghost use Rattle.terms.specs.Answers.{said};
 ghost use Rattle.terms.specs.Limits.{most_boundaries};
-ghost use Rattle.capacity.specs.Calls.{due_at, with_due, to_come, with_boundary, with_boundaries, run_says, run_leaves, passed};
-ghost use Rattle.capacity.specs.Places.{Stands, Lacks};
+ghost use Rattle.capacity.specs.Calls.{to_come, with_boundary, with_boundaries, run_says, run_leaves, passed};
+ghost use Rattle.capacity.specs.Intervals.{boundary_at};
+ghost use Rattle.capacity.specs.Places.{Lacks};
 ghost use Rattle.capacity.specs.Spare.{headroom};
+ghost use Rattle.slot_book.specs.Due.{with_due_at};
 ghost use Rattle.slot_book.specs.Slot.{slot_meaning, slot_boundaries};
 ghost use Rattle.slot_book.specs.Spans.{later_spans};
 
@@ -22,25 +24,25 @@ impl SlotBook {
         ensures { slot_meaning self.new ≡ with_boundaries (slot_meaning self.old) (with_boundary (slot_boundaries self.old) deadline) }
     {
         let start = self.start(place);
-        let whole = self.spans[place];
-        self.spans[place] = whole.right_part(start, deadline);
-        let _ = self.spans.insert(place, whole.left_part(start, deadline));
+        let (left, right) = self.spans[place].split_at(start, deadline);
+        self.spans[place] = right;
+        let _ = self.spans.insert(place, left);
     }
 
     // So much more is due at the boundary at a place.
-    pub(crate) fn owe_at(&mut self, place: usize, deadline: u32, demand: u32)
-        requires stands { Stands (slot_boundaries self.old) deadline place }
-        requires fits { demand ≤ headroom (slot_meaning self.old) deadline }
-        ensures { slot_meaning self.new ≡ with_boundaries (slot_meaning self.old) (with_due (slot_boundaries self.old) deadline (due_at (slot_boundaries self.old) deadline + demand)) }
+    pub(crate) fn owe_at(&mut self, place: usize, demand: u32)
+        requires within { place < length (slot_boundaries self.old) }
+        requires fits { demand ≤ headroom (slot_meaning self.old) (boundary_at (slot_boundaries self.old) place).end }
+        ensures { slot_meaning self.new ≡ with_boundaries (slot_meaning self.old) (with_due_at (slot_boundaries self.old) place ((boundary_at (slot_boundaries self.old) place).due + demand)) }
     {
         carry(&mut self.spans, place, -(demand as i32));
     }
 
     // So much less is due at the boundary at a place.
-    pub(crate) fn forgive_at(&mut self, place: usize, deadline: u32, demand: u32)
-        requires stands { Stands (slot_boundaries self.old) deadline place }
-        requires owed { demand ≤ due_at (slot_boundaries self.old) deadline }
-        ensures { slot_meaning self.new ≡ with_boundaries (slot_meaning self.old) (with_due (slot_boundaries self.old) deadline (due_at (slot_boundaries self.old) deadline - demand)) }
+    pub(crate) fn forgive_at(&mut self, place: usize, demand: u32)
+        requires within { place < length (slot_boundaries self.old) }
+        requires owed { demand ≤ (boundary_at (slot_boundaries self.old) place).due }
+        ensures { slot_meaning self.new ≡ with_boundaries (slot_meaning self.old) (with_due_at (slot_boundaries self.old) place ((boundary_at (slot_boundaries self.old) place).due - demand)) }
     {
         carry(&mut self.spans, place, demand as i32);
     }
@@ -51,16 +53,15 @@ impl SlotBook {
         ensures book { slot_meaning self.new ≡ run_leaves (slot_meaning self.old) None }
     {
         self.time.pass()?;
-        self.spans[0] = self.spans[0].changed(-1);
+        self.spans[0].change(-1);
         drop_ended(&mut self.spans, self.time.clock);
         Ok(())
     }
 
     // Lets a slot pass for the first boundary: what it costs and what it serves cancel out, so no record is touched.
-    pub(crate) fn pass_for_first(&mut self, deadline: u32)
-        requires first { Stands (slot_boundaries self.old) deadline 0 }
-        requires owed { 1 ≤ due_at (slot_boundaries self.old) deadline }
-        ensures { slot_meaning self.new ≡ passed (slot_meaning self.old) (Some deadline) }
+    pub(crate) fn pass_for_first(&mut self)
+        requires { 1 ≤ (boundary_at (slot_boundaries self.old) 0).due }
+        ensures { slot_meaning self.new ≡ passed (with_boundaries (slot_meaning self.old) (with_due_at (slot_boundaries self.old) 0 ((boundary_at (slot_boundaries self.old) 0).due - 1))) None }
     {
         self.time.clock += 1;
         drop_ended(&mut self.spans, self.time.clock);
@@ -73,10 +74,10 @@ impl SlotBook {
     {
         let place = self.owing_place(deadline, 1)?;
         if place == 0 {
-            self.pass_for_first(deadline);
+            self.pass_for_first();
             return Ok(());
         }
-        self.forgive_at(place, deadline, 1);
+        self.forgive_at(place, 1);
         self.pass()
     }
 }

@@ -59,13 +59,13 @@ impl Book for SlotBook {
         if demand > self.room(deadline) {
             return Err(Refusal::NoCapacity);
         }
-        self.owe_at(place, deadline, demand);
+        self.owe_at(place, demand);
         Ok(())
     }
 
     fn forgive(&mut self, deadline: u32, demand: u32) -> Result<(), Refusal> {
         let place = self.owing_place(deadline, demand)?;
-        self.forgive_at(place, deadline, demand);
+        self.forgive_at(place, demand);
         Ok(())
     }
 
@@ -88,7 +88,8 @@ impl Book for SlotBook {
         if interval < 1 || interval > self.len() {
             return Err(Refusal::Unfit);
         }
-        Ok(self.spans[interval - 1].spare)
+        let span = self.spans[interval - 1];
+        Ok(span.spare)
     }
 
     fn headroom(&mut self, deadline: u32) -> Result<u32, Refusal> {

@@ -31,8 +31,7 @@ impl SlotBook {
     pub fn place(&self, deadline: u32) -> Result<usize, usize>
         ensures { Found (slot_meaning self.now).boundaries deadline result }
     {
-        self.spans
-            .binary_search_by_key(&deadline, |span| span.end)
+        self.spans.binary_search_by_key(&deadline, |span| span.end)
     }
 
     // Where the interval at a place begins.
@@ -48,20 +47,14 @@ impl SlotBook {
         requires { place ≤ vec_len self.now.spans }
         ensures { result ≡ short (start_at self.now.time.clock (slot_boundaries self.now) place) (drop place (slot_boundaries self.now)) }
     {
-        if place < self.spans.len() {
-            self.spans[place].lacking()
-        } else {
-            0
-        }
+        self.spans.get(place).map_or(0, |span| span.lacking())
     }
 
     // Where the first interval ends; the clock where none is left.
     pub fn first_end(&self) -> u32
         ensures { result ≡ first_end (slot_meaning self.now).clock (slot_meaning self.now).boundaries }
     {
-        self.spans
-            .first()
-            .map_or(self.time.clock, |span| span.end)
+        self.spans.first().map_or(self.time.clock, |span| span.end)
     }
 
     // What is due at the boundary at a place, worked out from neighbouring spares; nothing where there is none.
@@ -94,7 +87,7 @@ impl SlotBook {
         let mut room = 0;
         for span in self.spans.iter() {
             if deadline <= span.end {
-                return room + span.free_before(deadline - start);
+                return room + span.free_before(start, deadline);
             }
             room += span.free();
             start = span.end;

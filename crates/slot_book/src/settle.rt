@@ -57,7 +57,7 @@ fn mend(spans: &mut [Span], from: u32, to: u32, served: &[u32])
         let span = spans[place];
         let due = span.used(start_of(spans, from, place)) - before;
         let left = due.saturating_sub(given(served, place));
-        let mended = Span::using(start_of(spans, to, place), span.end, left + after);
+        let mended = span.using(start_of(spans, to, place), left + after);
         before = span.lacking();
         after = mended.lacking();
         spans[place] = mended;

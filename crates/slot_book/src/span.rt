@@ -3,8 +3,9 @@
 ghost use Rattle.std.specs.Prelude.{◌≡◌, ◌+◌, ◌≤◌, pos, ◌+ℤ◌, ◌-ℤ◌, ◌≤ℤ◌};
 ghost use Rattle.std.specs.Int.{int_min};
 ghost use Rattle.capacity.specs.Spare.{positive_part};
-ghost use Rattle.terms.specs.Limits.{longest_horizon};
 ghost use Rattle.slot_book.specs.Small.{Small};
+
+use std::marker::Model;
 
 // An interval: the slot where it ends, and its spare capacity. It begins where the one before it ends.
 #[derive(Clone, Copy)]
@@ -13,90 +14,80 @@ pub(crate) struct Span {
     pub(crate) spare: i32,
 }
 
+impl Model for Span {
+    ghost use Rattle.slot_book.specs.Interval.{Interval, IsWithinHorizon};
+
+    ghost Value = { Interval };
+
+    ghost view = { λ s. record { end = s.end; spare = s.spare } };
+
+    ghost invariant = { λ s. IsWithinHorizon s.end s.spare };
+
+    ghost inverse = { λ x. record { end = x.end; spare = x.spare } };
+}
+
 impl Span {
-    // The same interval with so much more to spare, or less.
-    pub(crate) fn changed(self, change: i32) -> Span
-        requires { (Small self.spare) × (Small change) }
-        ensures end { result.end ≡ self.end }
-        ensures spare { result.spare ≡ self.spare +ℤ change }
-    {
-        Span {
-            end: self.end,
-            spare: self.spare + change,
-        }
-    }
+    ghost use Rattle.slot_book.specs.Carry.{with_more, handed_on};
+    ghost use Rattle.slot_book.specs.Split.{left_of, right_of};
 
-    // What counts of the spare for the intervals before this one: only what is below nought.
-    fn below_nought(self) -> i32
-        ensures { result ≡ int_min (pos 0) self.spare }
+    // Gives the interval so much more to spare, or less. Answers what the interval before it gains by that.
+    pub(crate) fn change(&mut self, by: i32) -> i32
+        requires { Small (self.old.spare +ℤ by) }
+        ensures changed { self.new ≡ with_more self.old by }
+        ensures handed { result ≡ handed_on self.old.spare by }
     {
-        self.spare.min(0)
-    }
-
-    // By how much the interval before this one gains by a change of the spare.
-    pub(crate) fn carried_on(self, change: i32) -> i32
-        requires { (Small self.spare) × (Small change) }
-        ensures { result ≡ int_min (pos 0) (self.spare +ℤ change) -ℤ int_min (pos 0) self.spare }
-    {
-        self.changed(change).below_nought() - self.below_nought()
+        let before = below_nought(self.spare);
+        self.spare += by;
+        below_nought(self.spare) - before
     }
 
     // What the interval takes from before its start: as much as its spare is below nought.
     pub(crate) fn lacking(self) -> u32
-        requires { Small self.spare }
         ensures { pos result +ℤ int_min (pos 0) self.spare ≡ pos 0 }
     {
-        self.below_nought().unsigned_abs()
+        below_nought(self.spare).unsigned_abs()
     }
 
-    // The interval between two slots of which so much is used.
-    pub(crate) fn using(start: u32, end: u32, used: u32) -> Span
-        requires wide { (start ≤ end) × (end ≤ longest_horizon) }
-        requires fits { used ≤ end }
-        ensures end { result.end ≡ end }
-        ensures spare { result.spare +ℤ pos (start + used) ≡ pos end }
+    // The same interval, where it begins at a slot and so much of it is used.
+    pub(crate) fn using(self, start: u32, used: u32) -> Span
+        requires wide { start ≤ self.end }
+        requires fits { used ≤ self.end }
+        ensures end { result.end ≡ self.end }
+        ensures spare { result.spare +ℤ pos (start + used) ≡ pos self.end }
     {
         Span {
-            end,
-            spare: (end - start) as i32 - used as i32,
+            end: self.end,
+            spare: (self.end - start) as i32 - used as i32,
         }
     }
 
     // What is used of the interval: what is due at its end, and what the intervals behind it take.
     pub(crate) fn used(self, start: u32) -> u32
-        requires small { Small self.spare }
-        requires wide { (start ≤ self.end) × (self.end ≤ longest_horizon) }
+        requires wide { start ≤ self.end }
         requires some { (self.spare +ℤ pos start) ≤ℤ pos self.end }
         ensures { self.spare +ℤ pos (start + result) ≡ pos self.end }
     {
         ((self.end - start) as i32 - self.spare) as u32
     }
 
-    // The part before a slot inside: it can spare what the whole could, and no more than its width.
-    pub(crate) fn left_part(self, start: u32, at: u32) -> Span
-        requires { (start ≤ at) × (at ≤ longest_horizon) }
-        ensures end { result.end ≡ at }
-        ensures spare { result.spare ≡ int_min (pos at -ℤ pos start) self.spare }
+    // The parts before a slot inside and behind it. The first can spare what the whole could, and no more than its width; the
+    // second has to do without that width.
+    pub(crate) fn split_at(self, start: u32, at: u32) -> (Span, Span)
+        requires inside { (start ≤ at) × (at ≤ self.end) }
+        requires small { Small (self.spare -ℤ (pos at -ℤ pos start)) }
+        ensures left { result.0 ≡ left_of self start at }
+        ensures right { result.1 ≡ right_of self start at }
     {
         let width = (at - start) as i32;
-        Span {
+        let left = Span {
             end: at,
             spare: width.min(self.spare),
-        }
-    }
-
-    // The part behind a slot inside: it has to do without the width of the other.
-    pub(crate) fn right_part(self, start: u32, at: u32) -> Span
-        requires small { Small self.spare }
-        requires inside { (start ≤ at) × (at ≤ longest_horizon) }
-        ensures end { result.end ≡ self.end }
-        ensures spare { result.spare ≡ self.spare -ℤ (pos at -ℤ pos start) }
-    {
-        let width = (at - start) as i32;
-        Span {
+        };
+        let right = Span {
             end: self.end,
             spare: self.spare - width,
-        }
+        };
+        (left, right)
     }
 
     // What the interval has free.
@@ -106,11 +97,19 @@ impl Span {
         self.spare.max(0) as u32
     }
 
-    // What the interval has free before a slot that lies so far behind its start.
-    pub(crate) fn free_before(self, width: u32) -> u32
-        requires { width ≤ longest_horizon }
-        ensures { result ≡ positive_part (int_min (pos width) self.spare) }
+    // What the interval has free before a slot inside.
+    pub(crate) fn free_before(self, start: u32, at: u32) -> u32
+        requires { (start ≤ at) × (at ≤ self.end) }
+        ensures { result ≡ positive_part (int_min (pos at -ℤ pos start) self.spare) }
     {
-        (width as i32).min(self.spare).max(0) as u32
+        let width = (at - start) as i32;
+        width.min(self.spare).max(0) as u32
     }
+}
+
+// What counts of a spare for the intervals before: only what is below nought.
+fn below_nought(spare: i32) -> i32
+    ensures { result ≡ int_min (pos 0) spare }
+{
+    spare.min(0)
 }

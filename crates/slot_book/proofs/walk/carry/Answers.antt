@@ -1,35 +1,37 @@
-use Rattle.std.proofs.Common.{◌∙◌, w32, SFits, rules}
-use Rattle.std.proofs.lemmas.Int.{to_z-of_z}
-use Rattle.slot_book.proofs.Correspond.{span_is}
-use Rattle.slot_book.proofs.Walking.{begins, again, standing_small, ends_after, ends_raise}
+use Rattle.std.proofs.Common.{◌≡◌, suc, ◌-◌, ◌∙◌, arith, w32, SFits, rules}
+use Rattle.std.proofs.lemmas.Int.{ints, to_z-of_z}
+use Rattle.slot_book.proofs.Walking.{begins, standing_small, turn_goes_on, turn_stops, ends_first}
 use Rattle.slot_book.proofs.walk.carry.Goals as goal
 
-pub walk-init : goal.walk-init
-walk-init c =
-    rw (to_z-of_z w32 c.args.change c.ranges.change)
-    (begins c.args.spans.now c.args.from c.args.change c.requires.within c.requires.by)
+pub loop-place-init : goal.loop-place-init
+loop-place-init c = begins c.args.spans.now c.args.from _ c.requires.within
 
-pub changed-requires : goal.changed-requires
-changed-requires c = (standing_small _ _ _ _ _ _ c.walk.invariant c.requires.spares, c.walk.invariant.small)
+pub change-change-requires : goal.change-change-requires
+change-change-requires c =
+    standing_small _ _ _ _ _ _ _ c.loop-place.invariant (rw (to_z-of_z w32 c.args.change c.ranges.change) c.requires.spares)
 
-pub carried_on-change-requires : goal.carried_on-change-requires
-carried_on-change-requires c = (standing_small _ _ _ _ _ _ c.walk.invariant c.requires.spares, c.walk.invariant.small)
+pub loop-place-preserved : goal.loop-place-preserved
+loop-place-preserved c =
+    let fits : SFits w32 c.change-change.result = search rules in
+    let here : suc (c.loop-place.place - 1) ≡ c.loop-place.place = omega arith in
+    rw
+    (here, to_z-of_z w32 c.change-change.result fits)
+    (turn_goes_on _ _ _ _ _ _ _ _ _ c.loop-place.invariant c.change-change.ensures.changed c.change-change.ensures.handed (λ none. omega (arith, ints, none)))
 
-pub walk-preserved : goal.walk-preserved
-walk-preserved c =
-    let fits : SFits w32 c.carried_on-change.result = search rules in
-    let on = rw (to_z-of_z w32 c.carried_on-change.result fits) at (c.is_over.ensures.goes c.if-is_over.false) in
-    rw (to_z-of_z w32 c.carried_on-change.result fits)
-    (again _ _ _ _ _ _ c.carried_on-change.result c.changed.result c.walk.invariant c.changed.ensures.end
-    c.changed.ensures.spare c.carried_on-change.ensures on.0 on.1)
-
-pub returns : goal.returns
-returns c =
-    let fits : SFits w32 c.carried_on-change.result = search rules in
+pub returns-then-change-eq0 : goal.returns-then-change-eq0
+returns-then-change-eq0 c =
     let whole = to_z-of_z w32 c.args.change c.ranges.change in
-    let is = span_is c.changed.result _ _ c.changed.ensures.end c.changed.ensures.spare in
-    let over = rw (to_z-of_z w32 c.carried_on-change.result fits, c.carried_on-change.ensures) at (c.is_over.ensures.over c.if-is_over.true) in
-    record {
-      after = rw whole at (ends_after _ _ _ _ _ _ _ c.walk.invariant is over);
-      rose = λ one. ends_raise _ _ _ _ _ _ _ c.walk.invariant is over (whole ∙ one);
-    }
+    let end =
+    turn_stops _ _ _ _ _ _ _ _ _ c.loop-place.invariant c.change-change.ensures.changed c.change-change.ensures.handed
+    (omega (arith, ints))
+    in
+    record { after = rw whole at end.0; rose = λ one. end.1 (whole ∙ one) }
+
+pub returns-else-change-eq0 : goal.returns-else-change-eq0
+returns-else-change-eq0 c =
+    let whole = to_z-of_z w32 c.args.change c.ranges.change in
+    let end =
+    ends_first _ _ _ _ _ _ (omega arith)
+    (turn_goes_on _ _ _ _ _ _ _ _ _ c.loop-place.invariant c.change-change.ensures.changed c.change-change.ensures.handed (λ none. omega (arith, ints, none)))
+    in
+    record { after = rw whole at end.0; rose = λ one. end.1 (whole ∙ one) }

@@ -9,17 +9,17 @@ use Rattle.slot_book.proofs.lines.SlotBookBook.spare.Goals as goal
 
 pub returns : goal.returns
 returns c =
-    let book = c.args.self.now in
-    let xs = vec_items book.spans in
-    let fits : SFits w32 c.index.result.now.spare = search rules in
+    let b = c.args.self.now in
+    let xs = vec_items b.spans in
+    let fits : SFits w32 c.span.inside.spare = search rules in
     let within : c.args.interval - 1 < length xs = search rules in
-    let is : c.index.result.now.spare ≡ spare (slot_meaning book) c.args.interval =
-    ap (λ x. x.spare) (get_or_read xs (c.args.interval - 1) _ within c.index.ensures _)
-    ∙ spare_told book.time.clock xs (c.args.interval - 1) book.fair
+    let is : c.span.inside.spare ≡ spare (slot_meaning b) c.args.interval =
+    ap (λ x. x.spare) (c.span.view_is ∙ get_or_read xs (c.args.interval - 1) _ within c.index-span.ensures _)
+    ∙ spare_told b.time.clock xs (c.args.interval - 1) b.fair
     in
     record {
       answer =
-          rw (to_z-of_z w32 c.index.result.now.spare fits)
-          (spare_answered (slot_meaning book) c.args.interval _ (search rules) (search rules) is);
+          rw (to_z-of_z w32 c.span.inside.spare fits)
+          (spare_answered (slot_meaning b) c.args.interval _ (search rules) (search rules) is);
       same = refl;
     }

@@ -17,8 +17,7 @@ used-requires c =
     let within : c.args.place < length (vec_items c.args.self.now.spans) = search rules in
     let x = read_in c.args.self.now c.index.result.now c.args.place within c.index.ensures in
     record {
-      small = x.small;
-      wide = (omega (arith, x.wide, c.start-start.ensures), omega (arith, x.early, c.args.self.now.time.ranged));
+      wide = omega (arith, x.wide, c.start-start.ensures);
       some = omega (arith, ints, x.spare, c.start-start.ensures);
     }
 

@@ -1,45 +1,51 @@
-use Rattle.std.proofs.Common.{◌<◌, ◌≤◌, length, vec_items, arith, rules}
-use Rattle.std.proofs.lemmas.Int.{ints}
-use Rattle.slot_book.proofs.Books.{book_small, length_dues}
+use Rattle.std.proofs.Common.{◌<◌, ◌≤◌, refl, ◌+◌, length, vec_items, arith, rules}
+use Rattle.std.specs.Vec.{with_items}
+use Rattle.capacity.specs.Calls.{with_boundaries}
+use Rattle.capacity.specs.Intervals.{boundary_at}
+use Rattle.slot_book.specs.Due.{with_due_at}
+use Rattle.slot_book.specs.Slot.{slot_meaning, slot_boundaries}
+use Rattle.slot_book.proofs.Books.{length_dues}
 use Rattle.slot_book.proofs.Fits.{loss_is}
-use Rattle.slot_book.proofs.Writes.{carried_items, owed, room_small}
+use Rattle.slot_book.proofs.Writes.{Tells, tells_small, carried_items, owed, room_small}
+use Rattle.slot_book.proofs.slot.SlotBook.owe_at.Goals.{Start, After-carry}
 use Rattle.slot_book.proofs.slot.SlotBook.owe_at.Goals as goal
 
+few : (c : Start) → c.args.demand ≤ 1000000
+few c = room_small c.args.self.now _ _ c.requires.within c.requires.fits
+
 pub overflow_cast-demand : goal.overflow_cast-demand
-overflow_cast-demand c =
-    let few : c.args.demand ≤ 1000000 = room_small c.args.self.now c.args.deadline c.args.place c.args.demand c.requires.stands c.requires.fits in
-    search rules
+overflow_cast-demand c = let small = few (goal.at.overflow_cast-demand c).Start in search rules
 
 pub overflow_sub-demand : goal.overflow_sub-demand
-overflow_sub-demand c =
-    let few : c.args.demand ≤ 1000000 = room_small c.args.self.now c.args.deadline c.args.place c.args.demand c.requires.stands c.requires.fits in
-    search rules
+overflow_sub-demand c = let small = few (goal.at.overflow_sub-demand c).Start in search rules
 
 pub carry-requires : goal.carry-requires
 carry-requires c =
-    let book = c.args.self.now in
-    let few : c.args.demand ≤ 1000000 = room_small book c.args.deadline c.args.place c.args.demand c.requires.stands c.requires.fits in
+    let b = c.args.self.now in
     let lent = c.deref_mut.ensures.value in
-    let within : c.args.place < length (vec_items book.spans) =
-    omega (arith, c.requires.stands.within, length_dues book.time.clock (vec_items book.spans))
-    in
+    let within : c.args.place < length (vec_items b.spans) = omega (arith, c.requires.within, length_dues b.time.clock (vec_items b.spans)) in
     record {
       within = rw lent within;
-      spares = rw lent (book_small book);
-      by = rw (loss_is c.args.demand few) (omega (arith, ints), omega (arith, ints));
+      spares =
+          rw
+          (lent, loss_is c.args.demand (few (goal.at.carry-requires c).Start))
+          (tells_small b _ _ (owed b _ _ _ c.requires.within c.requires.fits refl));
     }
+
+told :
+    (c : After-carry) →
+    Tells c.args.self.now.time.clock c.args.self.now.time.horizon (with_items c.args.self.now.spans c.carry.new.spans).items
+    (with_boundaries (slot_meaning c.args.self.now)
+    (with_due_at (slot_boundaries c.args.self.now) c.args.place ((boundary_at (slot_boundaries c.args.self.now) c.args.place).due + c.args.demand)))
+told c =
+    owed c.args.self.now _ _ _ c.requires.within c.requires.fits
+    (carried_items c.args.self.now.spans _ _ _ _ _ (search rules) c.carry.ensures.after
+    (loss_is c.args.demand (room_small c.args.self.now _ _ c.requires.within c.requires.fits)) c.deref_mut.ensures.value)
 
 pub invariant_of-self : goal.invariant_of-self
 invariant_of-self c =
-    let book = c.args.self.now in
-    let few : c.args.demand ≤ 1000000 = room_small book c.args.deadline c.args.place c.args.demand c.requires.stands c.requires.fits in
-    let items = carried_items book.spans _ _ _ _ _ (search rules) c.carry.ensures.after (loss_is c.args.demand few) c.deref_mut.ensures.value in
-    let k = owed book c.args.deadline c.args.place c.args.demand _ c.requires.stands c.requires.fits items in
-    record { fair = k.keeps.fair; ordered = k.keeps.ordered; bounded = k.keeps.bounded; few = search rules; room = search rules }
+    let k = (told (goal.at.invariant_of-self c).After-carry).keeps in
+    record { fair = k.fair; ordered = k.ordered; bounded = k.bounded; few = search rules; room = search rules }
 
 pub returns : goal.returns
-returns c =
-    let book = c.args.self.now in
-    let few : c.args.demand ≤ 1000000 = room_small book c.args.deadline c.args.place c.args.demand c.requires.stands c.requires.fits in
-    let items = carried_items book.spans _ _ _ _ _ (search rules) c.carry.ensures.after (loss_is c.args.demand few) c.deref_mut.ensures.value in
-    (owed book c.args.deadline c.args.place c.args.demand _ c.requires.stands c.requires.fits items).means
+returns c = (told (goal.at.returns c).After-carry).means

@@ -1,10 +1,7 @@
-use Rattle.std.proofs.Common.{◌<◌, None, length, vec_items, rules}
-use Rattle.std.proofs.lemmas.Bool.{eqb-false}
+use Rattle.std.proofs.Common.{None, rules}
 use Rattle.capacity.specs.Calls.{passed}
 use Rattle.slot_book.specs.Slot.{slot_meaning}
-use Rattle.slot_book.proofs.Books.{read_in}
-use Rattle.slot_book.proofs.Correspond.{span_is}
-use Rattle.slot_book.proofs.Writes.{Tells, not_refused, some_span, passes_none}
+use Rattle.slot_book.proofs.Writes.{Tells, not_refused, passing_small, passes_none}
 use Rattle.slot_book.proofs.slot.SlotBook.pass.Goals.{After-drop_ended}
 use Rattle.slot_book.proofs.slot.SlotBook.pass.Goals as goal
 
@@ -13,15 +10,14 @@ told :
     Tells c.pass.new.self.clock c.pass.new.self.horizon c.drop_ended.new.spans.items (passed (slot_meaning c.args.self.now) None)
 told c =
     let b = c.args.self.now in
-    passes_none b c.index.result.now c.changed.result _ _ _ (not_refused b c.in_ok-pass.ensures.answer) c.index.ensures
-    (span_is c.changed.result _ _ c.changed.ensures.end c.changed.ensures.spare)
-    c.drop_ended.ensures.items c.in_ok-pass.ensures.clock c.in_ok-pass.ensures.horizon
+    passes_none b c.index_mut.result.now c.change.new.self _ _ _ (not_refused b c.in_ok-pass.ensures.answer)
+    c.index_mut.ensures.value c.change.ensures.changed c.drop_ended.ensures.items c.in_ok-pass.ensures.clock
+    c.in_ok-pass.ensures.horizon
 
-pub changed-requires : goal.changed-requires
-changed-requires c =
+pub change-requires : goal.change-requires
+change-requires c =
     let b = c.args.self.now in
-    let some : 0 < length (vec_items b.spans) = some_span b (eqb-false _ _ (not_refused b c.in_ok-pass.ensures.answer)) in
-    ((read_in b c.index.result.now 0 some c.index.ensures).small, (search rules, search rules))
+    passing_small b _ (not_refused b c.in_ok-pass.ensures.answer) c.index_mut.ensures.value
 
 pub invariant_of-self-2 : goal.invariant_of-self-2
 invariant_of-self-2 c =

@@ -1,22 +1,28 @@
 use Rattle.std.proofs.Common.{◌≡◌, None, sym, ap, ◌∙◌}
-use Rattle.capacity.specs.Calls.{run_says, run_leaves, forgive_leaves}
+use Rattle.capacity.specs.Calls.{run_says, run_leaves, forgive_leaves, passed, with_boundaries}
 use Rattle.capacity.proofs.Slots.{forgive_taken, run_taken, run_is_forgive_and_pass}
 use Rattle.slot_book.specs.Slot.{slot_meaning}
+use Rattle.slot_book.proofs.Writes.{less_due}
 use Rattle.slot_book.proofs.slot.SlotBook.run_for.Goals as goal
 
 pub returns-then-place-eq0 : goal.returns-then-place-eq0
 returns-then-place-eq0 c =
-    let book = c.args.self.now in
-    let law = run_taken (slot_meaning book) c.args.deadline book.ordered c.in_ok-place.ensures.1 in
-    record { answer = sym law.0; book = c.pass_for_first.ensures ∙ sym law.1 }
+    let m = slot_meaning c.args.self.now in
+    let law = run_taken m c.args.deadline c.args.self.now.ordered c.in_ok-place.ensures.1 in
+    let first = rw c.if-place-eq0.true at c.in_ok-place.ensures.0 in
+    record {
+      answer = sym law.0;
+      book = c.pass_for_first.ensures ∙ ap (λ bs. passed (with_boundaries m bs) None) (less_due first 1) ∙ sym law.1;
+    }
 
 pub returns : goal.returns
 returns c =
-    let book = c.args.self.now in
-    let m = slot_meaning book in
+    let m = slot_meaning c.args.self.now in
     let due = c.in_ok-place.ensures.1 in
-    let law = run_is_forgive_and_pass m c.args.deadline book.ordered due in
-    let left : slot_meaning c.forgive_at.new.self ≡ forgive_leaves m c.args.deadline 1 = c.forgive_at.ensures ∙ sym (forgive_taken m c.args.deadline 1 due) in
+    let law = run_is_forgive_and_pass m c.args.deadline c.args.self.now.ordered due in
+    let left : slot_meaning c.forgive_at.new.self ≡ forgive_leaves m c.args.deadline 1 =
+    c.forgive_at.ensures ∙ ap (with_boundaries m) (less_due c.in_ok-place.ensures.0 1) ∙ sym (forgive_taken m c.args.deadline 1 due)
+    in
     record {
       answer = c.pass.ensures.answer ∙ ap (λ x. run_says x None) left ∙ sym law.0;
       book = c.pass.ensures.book ∙ ap (λ x. run_leaves x None) left ∙ sym law.1;
