@@ -32,11 +32,11 @@ end_told s [] k = refl
 end_told s (x ∷ xs) zero = refl
 end_told s (x ∷ xs) (suc k) = end_told x.end xs k
 
-pub start_told : (s : ℕ) (xs : List Span) (k : ℕ) → k ≤ length xs → start_at s (dues_of s xs) k ≡ start_of s xs k
-start_told s xs zero le = refl
-start_told s [] (suc k) le = absurd (omega arith)
-start_told s (x ∷ xs) (suc zero) le = refl
-start_told s (x ∷ xs) (suc (suc k)) le = start_told x.end xs (suc k) (omega arith)
+pub start_told : (s t : ℕ) (xs : List Span) (k : ℕ) → k ≤ length xs → start_at t (dues_of s xs) k ≡ start_of t xs k
+start_told s t xs zero le = refl
+start_told s t [] (suc k) le = absurd (omega arith)
+start_told s t (x ∷ xs) (suc zero) le = refl
+start_told s t (x ∷ xs) (suc (suc k)) le = start_told x.end x.end xs (suc k) (omega arith)
 
 pub spare_of : (s : ℕ) (bs : List Boundary) (k : ℕ) → (span_at (spans_of s bs) k).spare ≡ get_or (spares s bs) k (pos 0)
 spare_of s [] k = refl

@@ -38,21 +38,17 @@ pub record Sound (s h : ℕ) (xs : List Span) : Type 0 where
   pub ordered : rises s (dues_of s xs) h ≡ true
   pub bounded : short s (dues_of s xs) ≤ s
 
+pub told : (s : ℕ) (bs : List Boundary) (xs : List Span) → xs ≡ spans_of s bs → dues_of s xs ≡ bs
+told s bs xs is = ap (dues_of s) is ∙ dues_spans s bs
+
 -- the records are sound once they are the spares of sound demands
 pub sound :
     (s h : ℕ) (bs : List Boundary) (xs : List Span) → xs ≡ spans_of s bs → rises s bs h ≡ true → short s bs ≤ s →
     Sound s h xs
 sound s h bs xs is ordered bounded =
-    let told : dues_of s xs ≡ bs = ap (dues_of s) is ∙ dues_spans s bs in
+    let same = told s bs xs is in
     record {
-      fair = ap (spans_of s) told ∙ sym is;
-      ordered = rw told ordered;
-      bounded = rw told bounded;
+      fair = ap (spans_of s) same ∙ sym is;
+      ordered = rw same ordered;
+      bounded = rw same bounded;
     }
-
-pub told : (s : ℕ) (bs : List Boundary) (xs : List Span) → xs ≡ spans_of s bs → dues_of s xs ≡ bs
-told s bs xs is = ap (dues_of s) is ∙ dues_spans s bs
-
--- a record is told by its end and its spare
-pub span_is : (r : Span) (e : ℕ) (z : ℤ) → r.end ≡ e → r.spare ≡ z → r ≡ record { end = e; spare = z }
-span_is r e z ends spares = rw (← ends, ← spares) refl

@@ -55,10 +55,15 @@ pub record Turn (s t : ℕ) (ys : List Span) (q before due : ℕ) (x : Span) : T
 
 -- starts are those of the records before
 starts_same :
-    (s t : ℕ) (xs ys : List Span) (ns : List ℕ) (q before after u : ℕ) → Mending s t xs ys ns (suc q) before after →
+    (u : ℕ) (xs ys : List Span) (q : ℕ) → ((k : ℕ) → k < q → span_at ys k ≡ span_at xs k) →
     start_of u ys q ≡ start_of u xs q
-starts_same s t xs ys ns zero before after u m = refl
-starts_same s t xs ys ns (suc q) before after u m = ap (λ x. x.end) (m.untouched q (omega arith))
+starts_same u xs ys zero same = refl
+starts_same u xs ys (suc q) same = ap (λ x. x.end) (same q (omega arith))
+
+-- later intervals begin where they began
+starts_agree : (s t : ℕ) (ys : List Span) (q : ℕ) → 0 < q → start_of s ys q ≡ start_of t ys q
+starts_agree s t ys zero lt = absurd (omega arith)
+starts_agree s t ys (suc q) lt = refl
 
 now_wide :
     (s t : ℕ) (xs : List Span) (q : ℕ) → Mendable s xs → t ≤ first_end s (dues_of s xs) → q < length xs →
@@ -74,7 +79,7 @@ turn_at s t xs q m le lt =
     let bs = dues_of s xs in
     let within : q < length bs = omega (arith, length_dues s xs) in
     let ends = end_told s xs q in
-    let start = start_told s xs q (omega arith) in
+    let start = start_told s s xs q (omega arith) in
     let spare = spare_told s xs q m.fair in
     let worth = spare_at s bs q within in
     let fits : (boundary_at bs q).due + short_from s bs (suc q) ≤ (span_at xs q).end = omega (arith, fits_at s bs q m.bounded within) in
@@ -89,23 +94,6 @@ turn_at s t xs q m le lt =
       law = law;
     }
 
-pub turn :
-    (s t : ℕ) (xs ys : List Span) (ns : List ℕ) (q before after : ℕ) → Mending s t xs ys ns (suc q) before after →
-    Mendable s xs →
-    t ≤ first_end s (dues_of s xs) →
-    Turn s t ys q before (boundary_at (dues_of s xs) q).due (span_at ys q)
-turn s t xs ys ns q before after g m le =
-    let at = turn_at s t xs q m le (omega (arith, g.within)) in
-    let same = g.untouched q (omega arith) in
-    let old = starts_same s t xs ys ns q before after s g in
-    let new = starts_same s t xs ys ns q before after t g in
-    record {
-      wide = rw (same, old) at.wide;
-      wide_now = rw (same, new) at.wide_now;
-      fits = rw (same, g.was) at.fits;
-      law = rw (same, old, g.was) at.law;
-    }
-
 -- what an interval lacks, from its spare
 lacks_is : (z : ℤ) (n e u : ℕ) → pos n +ℤ int_min (pos 0) z ≡ pos 0 → z +ℤ pos u ≡ pos e → n ≡ u - e
 lacks_is z n e u none law = omega (arith, ints, clamps)
@@ -116,96 +104,92 @@ same_span x y u ends mine its =
     let spares : x.spare ≡ y.spare = omega (arith, ints) in
     rw (← ends, ← spares) refl
 
--- ends and starts of the records to come
-ends_of : (t : ℕ) (bs : List Boundary) (k : ℕ) → (boundary_at bs k).end ≡ (span_at (spans_of t bs) k).end
+-- the ends of the records to come
+ends_of : (t : ℕ) (bs : List Boundary) (k : ℕ) → (span_at (spans_of t bs) k).end ≡ (boundary_at bs k).end
 ends_of t [] k = refl
 ends_of t (b ∷ bs) zero = refl
 ends_of t (b ∷ bs) (suc k) = ends_of b.end bs k
 
-new_end :
-    (s t : ℕ) (xs ys : List Span) (ns : List ℕ) (q before after : ℕ) → Mending s t xs ys ns (suc q) before after →
-    (span_at (spans_of t (left_of_dues s xs ns)) q).end ≡ (span_at ys q).end
-new_end s t xs ys ns q before after g =
-    sym (ends_of t (left_of_dues s xs ns) q) ∙ end_unserved (dues_of s xs) ns q ∙ end_told s xs q
-    ∙ ap (λ x. x.end) (sym (g.untouched q (omega arith)))
+-- the turn of the interval at place q
+module _ (s t : ℕ) (xs ys : List Span) (ns : List ℕ) (q before after : ℕ) (g : Mending s t xs ys ns (suc q) before after) where
+  as_was : span_at ys q ≡ span_at xs q
+  as_was = g.untouched q (omega arith)
 
-start_any : (s t : ℕ) (xs : List Span) (k : ℕ) → k ≤ length xs → start_at t (dues_of s xs) k ≡ start_of t xs k
-start_any s t xs zero le = refl
-start_any s t [] (suc k) le = absurd (omega arith)
-start_any s t (x ∷ xs) (suc k) le = start_told s (x ∷ xs) (suc k) le
+  begins : (u : ℕ) → start_of u ys q ≡ start_of u xs q
+  begins u = starts_same u xs ys q (λ k lt. g.untouched k (omega arith))
 
-new_start :
-    (s t : ℕ) (xs ys : List Span) (ns : List ℕ) (q before after : ℕ) → Mending s t xs ys ns (suc q) before after →
-    start_at t (left_of_dues s xs ns) q ≡ start_of t ys q
-new_start s t xs ys ns q before after g =
-    start_unserved t (dues_of s xs) ns q ∙ start_any s t xs q (omega (arith, g.within))
-    ∙ sym (starts_same s t xs ys ns q before after t g)
+  turn :
+      Mendable s xs → t ≤ first_end s (dues_of s xs) →
+      Turn s t ys q before (boundary_at (dues_of s xs) q).due (span_at ys q)
+  turn m le =
+      let at = turn_at s t xs q m le (omega (arith, g.within)) in
+      record {
+        wide = rw (as_was, begins s) at.wide;
+        wide_now = rw (as_was, begins t) at.wide_now;
+        fits = rw (as_was, g.was) at.fits;
+        law = rw (as_was, begins s, g.was) at.law;
+      }
 
--- the record that is mended is the one of the demands that are left
-mended_is :
-    (s t : ℕ) (xs ys : List Span) (ns : List ℕ) (q before after : ℕ) (r : Span) → Mending s t xs ys ns (suc q) before after →
-    r.end ≡ (span_at ys q).end →
-    r.spare +ℤ pos (start_of t ys q + (((boundary_at (dues_of s xs) q).due - get_or ns q 0) + after)) ≡ pos (span_at ys q).end →
-    r ≡ span_at (spans_of t (left_of_dues s xs ns)) q
-mended_is s t xs ys ns q before after r g ends spare =
-    let bs = dues_of s xs in
-    let bs' = unserved bs ns in
-    let within : q < length bs' = omega (arith, g.within, length_dues s xs, length_unserved bs ns) in
-    let worth = spare_at t bs' q within in
-    let own = spare_of t bs' q in
-    let due = due_unserved bs ns q in
-    let start : start_at t bs' q ≡ start_of t ys q = new_start s t xs ys ns q before after g in
-    let end : (span_at (spans_of t bs') q).end ≡ (span_at ys q).end = new_end s t xs ys ns q before after g in
-    let takes = start_of t ys q + (((boundary_at bs q).due - get_or ns q 0) + after) in
-    let all : start_at t bs' q + (boundary_at bs' q).due + short_from t bs' (suc q) ≡ takes = omega (arith, g.is) in
-    same_span r (span_at (spans_of t bs') q) takes (ends ∙ sym end) (rw ends spare) (rw own (rw (all, ends_of t bs' q) at worth))
+  old_end : (boundary_at (dues_of s xs) q).end ≡ (span_at ys q).end
+  old_end = end_told s xs q ∙ ap (λ x. x.end) (sym as_was)
 
--- later intervals begin where they began
-starts_agree :
-    (s t : ℕ) (ys : List Span) (q : ℕ) → 0 < q → start_of s ys q ≡ start_of t ys q
-starts_agree s t ys zero lt = absurd (omega arith)
-starts_agree s t ys (suc q) lt = refl
+  new_end : (boundary_at (left_of_dues s xs ns) q).end ≡ (span_at ys q).end
+  new_end = end_unserved (dues_of s xs) ns q ∙ old_end
 
-pub mends :
-    (s t : ℕ) (xs ys : List Span) (ns : List ℕ) (q before after : ℕ) (r : Span) (before' after' : ℕ) →
-    Mending s t xs ys ns (suc q) before after →
-    Turn s t ys q before (boundary_at (dues_of s xs) q).due (span_at ys q) →
-    r.end ≡ (span_at ys q).end →
-    r.spare +ℤ pos (start_of t ys q + (((boundary_at (dues_of s xs) q).due - get_or ns q 0) + after)) ≡ pos (span_at ys q).end →
-    pos before' +ℤ int_min (pos 0) (span_at ys q).spare ≡ pos 0 →
-    pos after' +ℤ int_min (pos 0) r.spare ≡ pos 0 →
-    Mending s t xs (set ys q r) ns q before' after'
-mends s t xs ys ns q before after r before' after' g at ends spare was is =
-    let bs = dues_of s xs in
-    let bs' = unserved bs ns in
-    let inside : q < length ys = omega (arith, g.within, g.lengths) in
-    let old = lacks_is (span_at ys q).spare before' _ _ was at.law in
-    let new = lacks_is r.spare after' _ _ is spare in
-    let short-old = short_at s bs q (omega (arith, g.within, length_dues s xs)) in
-    let short-new = short_at t bs' q (omega (arith, g.within, length_dues s xs, length_unserved bs ns)) in
-    let start-old : start_at s bs q ≡ start_of s ys q =
-    start_told s xs q (omega (arith, g.within)) ∙ sym (starts_same s t xs ys ns q before after s g)
-    in
-    let start-new = new_start s t xs ys ns q before after g in
-    let end-old : (boundary_at bs q).end ≡ (span_at ys q).end = end_told s xs q ∙ ap (λ x. x.end) (sym (g.untouched q (omega arith))) in
-    let end-new : (boundary_at bs' q).end ≡ (span_at ys q).end = end_unserved bs ns q ∙ end-old in
-    let due-new = due_unserved bs ns q in
-    record {
-      within = omega (arith, g.within);
-      lengths = simp length-set g.lengths;
-      untouched = λ k lt. set_there ys q k r (omega arith) ∙ g.untouched k (omega arith);
-      done =
-          λ k ge lt.
-          ⊎_elim
-          (λ (later : q < k). set_there ys q k r (omega arith) ∙ g.done k (omega arith) lt)
-          (λ (le : k ≤ q).
-          let here : k ≡ q = omega arith in
-          rw here (set_here ys q r inside ∙ mended_is s t xs ys ns q before after r g ends spare))
-          (cases_lt q k);
-      was = omega (arith, g.was);
-      is = omega (arith, g.is);
-      less = λ lt. omega (arith, starts_agree s t ys q lt, g.less (omega arith));
-    }
+  old_start : start_at s (dues_of s xs) q ≡ start_of s ys q
+  old_start = start_told s s xs q (omega (arith, g.within)) ∙ sym (begins s)
+
+  new_start : start_at t (left_of_dues s xs ns) q ≡ start_of t ys q
+  new_start = start_unserved t (dues_of s xs) ns q ∙ start_told s t xs q (omega (arith, g.within)) ∙ sym (begins t)
+
+  length_left : length (left_of_dues s xs ns) ≡ length xs
+  length_left = length_unserved (dues_of s xs) ns ∙ length_dues s xs
+
+  -- the record that is mended is the one of the demands that are left
+  mended_is :
+      (r : Span) → r.end ≡ (span_at ys q).end →
+      r.spare +ℤ pos (start_of t ys q + (((boundary_at (dues_of s xs) q).due - get_or ns q 0) + after)) ≡ pos (span_at ys q).end →
+      r ≡ span_at (spans_of t (left_of_dues s xs ns)) q
+  mended_is r ends spare =
+      let bs' = left_of_dues s xs ns in
+      let worth = spare_at t bs' q (omega (arith, g.within, length_left)) in
+      let takes = start_of t ys q + (((boundary_at (dues_of s xs) q).due - get_or ns q 0) + after) in
+      let all : start_at t bs' q + (boundary_at bs' q).due + short_from t bs' (suc q) ≡ takes =
+      omega (arith, g.is, new_start, due_unserved (dues_of s xs) ns q)
+      in
+      same_span r (span_at (spans_of t bs') q) takes (ends ∙ sym (ends_of t bs' q ∙ new_end)) (rw ends spare)
+      (rw (spare_of t bs' q) (rw (all, sym (ends_of t bs' q)) at worth))
+
+  mends :
+      (r : Span) (before' after' : ℕ) → Turn s t ys q before (boundary_at (dues_of s xs) q).due (span_at ys q) →
+      r.end ≡ (span_at ys q).end →
+      r.spare +ℤ pos (start_of t ys q + (((boundary_at (dues_of s xs) q).due - get_or ns q 0) + after)) ≡ pos (span_at ys q).end →
+      pos before' +ℤ int_min (pos 0) (span_at ys q).spare ≡ pos 0 →
+      pos after' +ℤ int_min (pos 0) r.spare ≡ pos 0 →
+      Mending s t xs (set ys q r) ns q before' after'
+  mends r before' after' at ends spare was is =
+      let bs = dues_of s xs in
+      let bs' = left_of_dues s xs ns in
+      let inside : q < length ys = omega (arith, g.within, g.lengths) in
+      let old = lacks_is (span_at ys q).spare before' _ _ was at.law in
+      let new = lacks_is r.spare after' _ _ is spare in
+      let short-old = short_at s bs q (omega (arith, g.within, length_dues s xs)) in
+      let short-new = short_at t bs' q (omega (arith, g.within, length_left)) in
+      let due-new = due_unserved bs ns q in
+      record {
+        within = omega (arith, g.within);
+        lengths = simp length-set g.lengths;
+        untouched = λ k lt. set_there ys q k r (omega arith) ∙ g.untouched k (omega arith);
+        done =
+            λ k ge lt.
+            ⊎_elim
+            (λ (later : q < k). set_there ys q k r (omega arith) ∙ g.done k (omega arith) lt)
+            (λ (le : k ≤ q). let here : k ≡ q = omega arith in rw here (set_here ys q r inside ∙ mended_is r ends spare))
+            (cases_lt q k);
+        was = omega (arith, g.was, old_start, old_end);
+        is = omega (arith, g.is, new_start, new_end);
+        less = λ lt. omega (arith, starts_agree s t ys q lt, g.less (omega arith), old_start, new_start, old_end, new_end);
+      }
 
 pub mending_ends :
     (s t : ℕ) (xs ys : List Span) (ns : List ℕ) (p before after : ℕ) → Mending s t xs ys ns p before after → p ≡ 0 →
@@ -250,7 +234,7 @@ mends_before s t xs ys ns (suc q) before after left x r before' after' g lt read
     let e : suc q - 1 ≡ q = omega arith in
     let held : x ≡ span_at ys q = get_or_read ys q x (omega (arith, g.within, g.lengths)) (rw e at read) _ in
     rw e
-    (mends s t xs ys ns q before after r before' after' g (rw (e, held) at at) (rw held at ends) (rw (e, held) at (rw due at spare))
+    (mends s t xs ys ns q before after g r before' after' (rw (e, held) at at) (rw held at ends) (rw (e, held) at (rw due at spare))
     (rw held at was) is)
 
 -- what is left of a demand, worked out from the spare, and what is then used of the interval

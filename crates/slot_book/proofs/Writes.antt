@@ -20,7 +20,7 @@ use Rattle.capacity.proofs.Keeps.{boundary_later, rises_with_due, rises_with_bou
 use Rattle.capacity.proofs.Least.{rises_le}
 use Rattle.capacity.proofs.Naturals.{headroom_is_room}
 use Rattle.capacity.proofs.Noted.{first_end_unserved, rises_unserved, short_unserved}
-use Rattle.capacity.proofs.Passing.{some_left, first_end_of, within_first}
+use Rattle.capacity.proofs.Passing.{some_left, first_end_of, first_end_later, within_first}
 use Rattle.capacity.proofs.Places.{stands, ends_rise, place_inside, start_before}
 use Rattle.capacity.proofs.Slots.{boundary_within}
 use Rattle.capacity.proofs.Suffixes.{placed_at, room_from_le}
@@ -72,11 +72,6 @@ pub less_due :
     {bs : List Boundary} {d k : ℕ} → Stands bs d k → (c : ℕ) →
     with_due_at bs k ((boundary_at bs k).due - c) ≡ with_due bs d (due_at bs d - c)
 less_due {bs} {d} {k} at c = due_by_place at _ ∙ ap (λ n. with_due bs d (n - c)) at.owes
-
-pub more_due :
-    {bs : List Boundary} {d k : ℕ} → Stands bs d k → (c : ℕ) →
-    with_due_at bs k ((boundary_at bs k).due + c) ≡ with_due bs d (due_at bs d + c)
-more_due {bs} {d} {k} at c = due_by_place at _ ∙ ap (λ n. with_due bs d (n + c)) at.owes
 
 -- the records after a walk over all of them
 pub carried_items :
@@ -158,6 +153,8 @@ room_small b k c within le =
 
 -- where a new boundary lies: in an interval of the book, behind its start
 pub record Inside (b : SlotBook) (d i : ℕ) : Type 0 where
+  pub after : b.time.clock < d
+  pub within : d ≤ b.time.horizon
   pub place : i < vec_len b.spans
   pub start : start_at b.time.clock (slot_boundaries b) i ≤ d
   pub early : d ≤ (boundary_at (slot_boundaries b) i).end
@@ -172,6 +169,8 @@ inside b d i at coming =
     let place = place_inside b.time.clock bs b.time.horizon d i b.ordered after within at.before at.within in
     let start = start_before b.time.clock bs d i after at.before at.within in
     record {
+      after = after;
+      within = within;
       place = omega (arith, length_dues b.time.clock (vec_items b.spans), b.spans.ok.0);
       start = omega arith;
       early = omega (arith, at.behind place);
@@ -204,9 +203,6 @@ split_at b d i s x left right ys at coming starts read lefts rights is =
     let bs = slot_boundaries b in
     let xs = vec_items b.spans in
     let in-it = inside b d i at coming in
-    let parts = and_parts (ltb b.time.clock d) (leb d b.time.horizon) coming in
-    let after = ltb-true b.time.clock d parts.0 in
-    let within = leb-true d b.time.horizon parts.1 in
     let place : i < length xs = omega (arith, in-it.place, b.spans.ok.0) in
     let held : x ≡ span_at xs i = get_or_read xs i x place read _ in
     let all =
@@ -221,8 +217,8 @@ split_at b d i s x left right ys at coming starts read lefts rights is =
     ∙ ap (spans_of b.time.clock) (sym at.puts)
     in
     tell b.time.clock b.time.horizon ys (with_boundary bs d) new
-    (rises_with_boundary b.time.clock bs b.time.horizon d b.ordered at.new after within)
-    (omega (arith, short_with_boundary b.time.clock bs d (omega arith), b.bounded))
+    (rises_with_boundary b.time.clock bs b.time.horizon d b.ordered at.new in-it.after in-it.within)
+    (omega (arith, in-it.after, short_with_boundary b.time.clock bs d (omega (arith, in-it.after)), b.bounded))
 
 taken : (late : Bool) {x : Unit {0}} → value x ≡ refuse 7 late (value tt) → late ≡ false
 taken true says = cc
@@ -334,6 +330,18 @@ passes_first b ys due is =
     (rw same (rises_with_due b.time.clock bs b.time.horizon d c b.ordered))
     (rw same (omega (arith, less, b.bounded))) narrow is
 
+-- slots that do not pass the end of the first interval
+pub record Ahead (b : SlotBook) (slots : ℕ) : Type 0 where
+  pub within : b.time.clock + slots ≤ first_end b.time.clock (slot_boundaries b)
+  pub early : b.time.clock + slots ≤ b.time.horizon
+
+pub ahead :
+    (b : SlotBook) (slots end : ℕ) → end ≡ first_end b.time.clock (slot_boundaries b) → slots ≤ end - b.time.clock →
+    Ahead b slots
+ahead b slots end is le =
+    let ends = first_end_later b.time.clock (slot_boundaries b) b.time.horizon b.ordered in
+    record { within = omega (arith, ends.0); early = omega (arith, ends.0, ends.1) }
+
 -- several slots of the first interval pass at once
 pub catches_up :
     (b : SlotBook) (slots : ℕ) (ns : List ℕ) (ys zs : List Span) →
@@ -358,7 +366,7 @@ mendable b =
     record {
       fair = b.fair;
       bounded = b.bounded;
-      wide = λ k lt. omega (arith, (read_at b k lt).wide, start_told b.time.clock xs k (omega arith));
+      wide = λ k lt. omega (arith, (read_at b k lt).wide, start_told b.time.clock b.time.clock xs k (omega arith));
     }
 
 -- the records after mending all of them

@@ -8,4 +8,4 @@ returns c =
     let book = c.args.self.now in
     let within : c.args.place ≤ length (vec_items book.spans) = search rules in
     c.start_of.ensures ∙ ap (λ xs. start_of book.time.clock xs c.args.place) c.deref.ensures.value
-    ∙ sym (start_told book.time.clock (vec_items book.spans) c.args.place within)
+    ∙ sym (start_told book.time.clock book.time.clock (vec_items book.spans) c.args.place within)
