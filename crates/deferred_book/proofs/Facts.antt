@@ -10,7 +10,7 @@ pub book_ordered : (s : SlotBook) → Ordered (slot_meaning s)
 book_ordered s = s.ordered
 
 pub book_ranged : (s : SlotBook) → (slot_meaning s).horizon ≤ longest_horizon
-book_ranged s = s.ranged
+book_ranged s = s.time.ranged
 
 pub book_few : (s : SlotBook) → length (slot_meaning s).boundaries ≤ most_boundaries
 book_few s = slot_few s
