@@ -22,7 +22,7 @@ impl Timeline {
         ensures clock { IfOk result (λ t. t.clock ≡ 0) }
         ensures horizon { IfOk result (λ t. t.horizon ≡ horizon) }
     {
-        if horizon < 1 || horizon > MAX_HORIZON {
+        if !(1..=MAX_HORIZON).contains(&horizon) {
             return Err(Refusal::OutOfRange);
         }
         Ok(Timeline { clock: 0, horizon })

@@ -61,13 +61,11 @@ impl Book for PlainBook {
         if self.boundaries.len() >= MAX_BOUNDARIES {
             return Err(Refusal::TooManyBoundaries);
         }
-        let _ = self.boundaries.insert(
-            place,
-            Boundary {
-                end: deadline,
-                due: 0,
-            },
-        );
+        let new = Boundary {
+            end: deadline,
+            due: 0,
+        };
+        self.boundaries.insert(place, new).unwrap();
         Ok(())
     }
 
@@ -110,7 +108,7 @@ impl Book for PlainBook {
     }
 
     fn spare(&mut self, interval: usize) -> Result<i32, Refusal> {
-        if interval < 1 || interval > self.boundaries.len() {
+        if !(1..=self.boundaries.len()).contains(&interval) {
             return Err(Refusal::Unfit);
         }
         let place = interval - 1;
