@@ -20,9 +20,9 @@ module _ (h : ℕ) where
   latest_le (b ∷ bs) = omega (arith, latest_le bs)
 
   -- the last boundary first, as the code goes
-  pub latest-reverse : (bs : List Boundary) → latest h bs ≡ fold latest_start h (reverse bs)
-  latest-reverse [] = refl
-  latest-reverse (b ∷ bs) = grind (arith, common_steps, latest-reverse bs)
+  pub latest_of_reverse : (bs : List Boundary) → latest h bs ≡ fold latest_start h (reverse bs)
+  latest_of_reverse [] = refl
+  latest_of_reverse (b ∷ bs) = grind (arith, common_steps, latest_of_reverse bs)
 
   pub start_le : (s : ℕ) (bs : List Boundary) (k : ℕ) → rises s bs h ≡ true → start_at s bs k ≤ h
   start_le s bs zero r = rises_le s bs h r

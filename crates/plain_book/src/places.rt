@@ -16,6 +16,13 @@ fn latest_start(behind: u32, boundary: &Boundary) -> u32
     boundary.end.min(behind).saturating_sub(boundary.due)
 }
 
+// What an interval has free before a slot, from where it begins and the latest start of the work from its end on.
+fn free_before(slot: u32, start: u32, latest: u32) -> u32
+    ensures { result ≡ min latest slot - start }
+{
+    latest.min(slot).saturating_sub(start)
+}
+
 impl PlainBook {
     // The place of a deadline among the boundaries, or the place that it would have.
     pub(crate) fn find(&self, deadline: u32) -> Result<usize, usize>
@@ -36,6 +43,7 @@ impl PlainBook {
     }
 
     // The latest start of the work from a place on.
+    #[tactic(auto, using(std::proofs::lemmas::List::take_rest, crate::proofs::Latest::latest_of_reverse))]
     pub(crate) fn latest(&self, from: usize) -> u32
         requires { from ≤ vec_len self.now.boundaries }
         ensures { result ≡ latest self.now.time.horizon (drop from self.now.boundaries.items) }
@@ -54,7 +62,7 @@ impl PlainBook {
         let mut room = 0;
         for place in (0..self.boundaries.len()).rev() {
             latest = latest_start(latest, &self.boundaries[place]);
-            room += latest.min(deadline).saturating_sub(self.start(place));
+            room += free_before(deadline, self.start(place), latest);
         }
         room
     }
