@@ -1,6 +1,6 @@
 -- Places among boundaries that rise.
-use Rattle.std.proofs.Common.{◌≡◌, ℕ, zero, suc, ◌+◌, ◌<◌, ◌≤◌, true, false, eqb, List, [], ◌∷◌, length, refl, ap, ⊎_elim, arith}
-use Rattle.std.proofs.lemmas.Bool.{cases_lt, cases_Bool, eqb-true, eq-eqb, ne_eqb, lt-ltb, le-ltb, or_from}
+use Rattle.std.proofs.Common.{◌≡◌, ℕ, zero, suc, ◌<◌, ◌≤◌, true, false, eqb, List, [], ◌∷◌, length, refl, ap, ⊎_elim, arith}
+use Rattle.std.proofs.lemmas.Bool.{cases_Bool, eqb-true, eq-eqb, ne_eqb, lt-ltb, le-ltb, or_from}
 use Rattle.capacity.specs.declared.boundary.Boundary.{Boundary}
 use Rattle.capacity.specs.Calls.{is_boundary}
 use Rattle.capacity.specs.Slack.{rises}
@@ -110,68 +110,3 @@ start_before s bs d zero sd before le = sd
 start_before s [] d (suc i) sd before le = sd
 start_before s (b ∷ bs) d (suc i) sd before le =
     start_before b.end bs d i (before 0 (omega arith)) (before_rest b bs d i before) (omega arith)
-
--- a search by halves: everything before `low` ends before d, and everything from `high` on ends after it
-pub record Between (bs : List Boundary) (d low high : ℕ) : Type 0 where
-  pub order : low ≤ high
-  pub within : high ≤ length bs
-  pub before : Before bs d low
-  pub behind : (k : ℕ) → high ≤ k → k < length bs → d < (boundary_at bs k).end
-
-pub between_all : (bs : List Boundary) (d n : ℕ) → n ≡ length bs → Between bs d 0 n
-between_all bs d n is =
-    record {
-      order = omega arith;
-      within = omega arith;
-      before = λ k lt. absurd (omega arith);
-      behind = λ k ge lt. absurd (omega arith);
-    }
-
-pub between_stands :
-    (s : ℕ) (bs : List Boundary) (h d low high i : ℕ) → rises s bs h ≡ true → Between bs d low high → i < high →
-    (boundary_at bs i).end ≡ d →
-    Stands bs d i
-between_stands s bs h d low high i r b lt e =
-    let within : i < length bs = omega (arith, b.within) in
-    stands bs d i (λ k ki. omega (arith, ends_rise s bs h k i r ki within)) within e
-
-pub between_above :
-    (s : ℕ) (bs : List Boundary) (h d low high i : ℕ) → rises s bs h ≡ true → Between bs d low high → i < high →
-    (boundary_at bs i).end < d →
-    Between bs d (i + 1) high
-between_above s bs h d low high i r b lt e =
-    let within : i < length bs = omega (arith, b.within) in
-    record {
-      order = omega arith;
-      within = b.within;
-      before =
-          λ k ki.
-          ⊎_elim
-          (λ (less : k < i). omega (arith, ends_rise s bs h k i r less within))
-          (λ (more : i ≤ k). let here : k ≡ i = omega arith in rw here e)
-          (cases_lt k i);
-      behind = b.behind;
-    }
-
-pub between_below :
-    (s : ℕ) (bs : List Boundary) (h d low high i : ℕ) → rises s bs h ≡ true → Between bs d low high → low ≤ i → i < high →
-    d < (boundary_at bs i).end →
-    Between bs d low i
-between_below s bs h d low high i r b le lt e =
-    let within : i < length bs = omega (arith, b.within) in
-    record {
-      order = le;
-      within = omega arith;
-      before = b.before;
-      behind =
-          λ k ge kl.
-          ⊎_elim
-          (λ (more : i < k). omega (arith, ends_rise s bs h i k r more kl))
-          (λ (less : k ≤ i). let here : k ≡ i = omega arith in rw here e)
-          (cases_lt i k);
-    }
-
-pub between_none :
-    (s : ℕ) (bs : List Boundary) (h d low high : ℕ) → rises s bs h ≡ true → Between bs d low high → high ≤ low → Lacks bs d low
-between_none s bs h d low high r b ge =
-    lacks s bs h d low r b.before (omega (arith, b.order, b.within)) (λ lt. b.behind low ge lt)

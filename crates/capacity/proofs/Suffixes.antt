@@ -96,10 +96,6 @@ pub short_all : (s : ℕ) (bs : List Boundary) → short_from s bs (length bs) �
 short_all s [] = refl
 short_all s (b ∷ bs) = short_all b.end bs
 
-pub room_all : (s : ℕ) (bs : List Boundary) (d : ℕ) → room_from s bs (length bs) d ≡ 0
-room_all s [] d = refl
-room_all s (b ∷ bs) d = room_all b.end bs d
-
 -- room never passes the slots to come
 room_le : (s : ℕ) (bs : List Boundary) (h d : ℕ) → rises s bs h ≡ true → room s bs d + s ≤ h
 room_le s [] h d r = let le = rises_le s [] h r in omega arith
