@@ -5,6 +5,6 @@ mod Walking
 pub mod Books
 mod Splitting
 mod Passing
-mod Writes
 mod Rooms
+mod Writes
 mod Mending

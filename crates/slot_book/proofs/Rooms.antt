@@ -40,9 +40,6 @@ pub record Summed (b : SlotBook) (d k start room : ℕ) : Type 0 where
   pub before : start < d
   pub sum : room + headroom_at b.time.clock (slot_boundaries b) k d ≡ headroom (slot_meaning b) d
 
-pub sum_begins : (b : SlotBook) (d : ℕ) → b.time.clock < d → Summed b d 0 b.time.clock 0
-sum_begins b d lt = record { starts = refl; before = lt; sum = omega arith }
-
 -- an interval's end and spare, in the records and by the demands that they tell
 own_end : (b : SlotBook) (k : ℕ) → (boundary_at (slot_boundaries b) k).end ≡ (span_at (vec_items b.spans) k).end
 own_end b k = end_told b.time.clock (vec_items b.spans) k

@@ -23,7 +23,7 @@ use Rattle.capacity.proofs.Noted.{first_end_unserved, rises_unserved, short_unse
 use Rattle.capacity.proofs.Passing.{some_left, first_end_of, first_end_later, within_first}
 use Rattle.capacity.proofs.Places.{stands, ends_rise, place_inside, start_before}
 use Rattle.capacity.proofs.Slots.{boundary_within}
-use Rattle.capacity.proofs.Suffixes.{placed_at, room_from_le}
+use Rattle.capacity.proofs.Suffixes.{placed_at}
 use Rattle.slot_book.specs.Carry.{AllSmall, carried, span_at, with_more}
 use Rattle.slot_book.specs.Due.{with_due_at}
 use Rattle.slot_book.specs.Mend.{Mendable}
@@ -37,6 +37,7 @@ use Rattle.slot_book.proofs.Books.{length_dues, start_told, read_at, read_in, al
 use Rattle.slot_book.proofs.Carrying.{spans_changed}
 use Rattle.slot_book.proofs.Correspond.{Sound, sound, told}
 use Rattle.slot_book.proofs.Passing.{spans_narrower, spans_served, spans_later}
+use Rattle.slot_book.proofs.Rooms.{headroom_small}
 use Rattle.slot_book.proofs.Splitting.{spans_split}
 
 -- new records of a book that means m with them
@@ -141,15 +142,8 @@ pub room_small :
     c ≤ headroom (slot_meaning b) (boundary_at (slot_boundaries b) k).end →
     c ≤ 1000000
 room_small b k c within le =
-    let bs = slot_boundaries b in
-    let d = (boundary_at bs k).end in
-    let after = boundary_later b.time.clock bs b.time.horizon d b.ordered (stands_at b k within).held in
-    omega (
-      arith,
-      headroom_is_room b.time.clock bs b.time.horizon d b.ordered (omega arith),
-      room_from_le b.time.clock bs b.time.horizon 0 d b.ordered (omega arith),
-      b.time.ranged,
-    )
+    let after = boundary_later b.time.clock (slot_boundaries b) b.time.horizon _ b.ordered (stands_at b k within).held in
+    omega (arith, headroom_small b (boundary_at (slot_boundaries b) k).end (omega arith))
 
 -- where a new boundary lies: in an interval of the book, behind its start
 pub record Inside (b : SlotBook) (d i : ℕ) : Type 0 where

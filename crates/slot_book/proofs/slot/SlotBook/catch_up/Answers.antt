@@ -1,34 +1,10 @@
-use Rattle.std.proofs.Common.{◌+◌, ◌≤◌, refl, arith, rules}
-use Rattle.std.specs.Vec.{with_items}
-use Rattle.std.proofs.lemmas.Bool.{le-leb, lt-leb}
-use Rattle.capacity.proofs.Passing.{first_end_later}
+use Rattle.std.proofs.Common.{◌+◌, refl, arith, rules}
+use Rattle.std.proofs.lemmas.Bool.{le-leb}
 use Rattle.capacity.specs.Noted.{first_end, caught_up}
 use Rattle.slot_book.specs.Slot.{slot_boundaries, slot_meaning}
 use Rattle.slot_book.proofs.Writes.{Tells, ahead, catches_up, mendable, mended_items}
 use Rattle.slot_book.proofs.slot.SlotBook.catch_up.Goals.{After-drop_ended}
 use Rattle.slot_book.proofs.slot.SlotBook.catch_up.Goals as goal
-
-pub overflow_sub-first_end : goal.overflow_sub-first_end
-overflow_sub-first_end c =
-    let b = c.args.self.now in
-    omega (arith, c.first_end.ensures, (first_end_later b.time.clock (slot_boundaries b) b.time.horizon b.ordered).0)
-
-pub returns-then-slots-first_end : goal.returns-then-slots-first_end
-returns-then-slots-first_end c =
-    let b = c.args.self.now in
-    let past =
-    lt-leb (b.time.clock + c.args.slots) (first_end b.time.clock (slot_boundaries b))
-    (omega (arith, c.first_end.ensures, c.if-slots-first_end.true))
-    in
-    record { answer = rw past refl; book = rw past refl }
-
-pub overflow_add-clock : goal.overflow_add-clock
-overflow_add-clock c =
-    let b = c.args.self.now in
-    let small : b.time.clock + c.args.slots ≤ 1000000 =
-    omega (arith, (ahead b _ _ c.first_end.ensures c.if-slots-first_end.false).early, b.time.ranged)
-    in
-    search rules
 
 pub mend-requires : goal.mend-requires
 mend-requires c =

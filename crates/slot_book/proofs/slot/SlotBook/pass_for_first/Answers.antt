@@ -1,12 +1,6 @@
-use Rattle.std.proofs.Common.{◌+◌, ◌≤◌, arith, rules}
+use Rattle.std.proofs.Common.{rules}
 use Rattle.slot_book.proofs.Writes.{first_later, passes_first}
 use Rattle.slot_book.proofs.slot.SlotBook.pass_for_first.Goals as goal
-
-pub overflow_add-self : goal.overflow_add-self
-overflow_add-self c =
-    let book = c.args.self.now in
-    let small : book.time.clock + 1 ≤ 1000000 = omega (arith, first_later book c.requires, book.time.ranged) in
-    search rules
 
 pub invariant_of-self : goal.invariant_of-self
 invariant_of-self c = record { ordered = first_later c.args.self.now c.requires; ranged = c.args.self.now.time.ranged }

@@ -1,9 +1,6 @@
 use Rattle.std.proofs.Common.{◌+◌, ◌≤◌, arith, rules}
-use Rattle.slot_book.proofs.Rooms.{sum_begins, sum_ends, sum_more, sum_all, headroom_small}
+use Rattle.slot_book.proofs.Rooms.{sum_ends, sum_more, sum_all, headroom_small}
 use Rattle.slot_book.proofs.slot.SlotBook.room.Goals as goal
-
-pub loop-span-init : goal.loop-span-init
-loop-span-init c = sum_begins c.args.self.now c.args.deadline c.requires
 
 pub overflow_add-result : goal.overflow_add-result
 overflow_add-result c =

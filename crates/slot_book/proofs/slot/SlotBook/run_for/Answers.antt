@@ -1,19 +1,9 @@
 use Rattle.std.proofs.Common.{◌≡◌, None, sym, ap, ◌∙◌}
-use Rattle.capacity.specs.Calls.{run_says, run_leaves, forgive_leaves, passed, with_boundaries}
-use Rattle.capacity.proofs.Slots.{forgive_taken, run_taken, run_is_forgive_and_pass}
+use Rattle.capacity.specs.Calls.{run_says, run_leaves, forgive_leaves, with_boundaries}
+use Rattle.capacity.proofs.Slots.{forgive_taken, run_is_forgive_and_pass}
 use Rattle.slot_book.specs.Slot.{slot_meaning}
 use Rattle.slot_book.proofs.Writes.{less_due}
 use Rattle.slot_book.proofs.slot.SlotBook.run_for.Goals as goal
-
-pub returns-then-place-eq0 : goal.returns-then-place-eq0
-returns-then-place-eq0 c =
-    let m = slot_meaning c.args.self.now in
-    let law = run_taken m c.args.deadline c.args.self.now.ordered c.in_ok-place.ensures.1 in
-    let first = rw c.if-place-eq0.true at c.in_ok-place.ensures.0 in
-    record {
-      answer = sym law.0;
-      book = c.pass_for_first.ensures ∙ ap (λ bs. passed (with_boundaries m bs) None) (less_due first 1) ∙ sym law.1;
-    }
 
 pub returns : goal.returns
 returns c =
