@@ -1,5 +1,5 @@
 -- The walk back, as it stands before each step.
-use Rattle.std.proofs.Common.{◌≡◌, ℕ, zero, suc, ◌+◌, ◌<◌, ◌≤◌, ◌≢◌, List, length, get_or, set, ℤ, pos, ◌+ℤ◌, ◌≤ℤ◌, ◌<ℤ◌, sym, refl, ap, ◌∙◌, ⊎_elim, arith, length-set, get_or-set_other, get_or-set_same}
+use Rattle.std.proofs.Common.{◌≡◌, ℕ, zero, suc, ◌+◌, ◌<◌, ◌≤◌, ◌≢◌, List, length, get_or, set, ℤ, pos, ◌+ℤ◌, ◌≤ℤ◌, ◌<ℤ◌, sym, ap, ◌∙◌, ⊎_elim, arith, length-set, get_or-set_other, get_or-set_same}
 use Rattle.std.proofs.lemmas.Int.{ints, clamps, by_lt_z}
 use Rattle.std.proofs.lemmas.Bool.{cases_lt}
 use Rattle.std.proofs.lemmas.List.{get_or_default}
@@ -19,19 +19,6 @@ pub record Walking (old now : List Span) (from left : ℕ) (whole change : ℤ) 
   pub one : whole ≡ pos 1 → change ≡ pos 1
   pub rose : whole ≡ pos 1 → (k : ℕ) → left ≤ k → k ≤ from → span_at now k ≡ with_more (span_at old k) (pos 1)
   pub negative : whole ≡ pos 1 → (k : ℕ) → left ≤ k → k ≤ from → (span_at old k).spare <ℤ pos 0
-
-pub begins : (xs : List Span) (from : ℕ) (z : ℤ) → from < length xs → Walking xs xs from (suc from) z z
-begins xs from z lt =
-    record {
-      back = omega arith;
-      inside = lt;
-      leads = refl;
-      ahead = λ k le. refl;
-      behind = λ k gt. refl;
-      one = λ e. e;
-      rose = λ e k gt le. absurd (omega arith);
-      negative = λ e k gt le. absurd (omega arith);
-    }
 
 -- where the walk stands, the spare will be one of those that it leads to
 pub standing_small :

@@ -33,7 +33,8 @@ impl SlotBook {
     pub(crate) fn owe_at(&mut self, place: usize, demand: u32)
         requires within { place < length (slot_boundaries self.old) }
         requires fits { demand ≤ headroom (slot_meaning self.old) (boundary_at (slot_boundaries self.old) place).end }
-        ensures { slot_meaning self.new ≡ with_boundaries (slot_meaning self.old) (with_due_at (slot_boundaries self.old) place ((boundary_at (slot_boundaries self.old) place).due + demand)) }
+        ensures { slot_meaning self.new ≡ with_boundaries (slot_meaning self.old)
+            (with_due_at (slot_boundaries self.old) place ((boundary_at (slot_boundaries self.old) place).due + demand)) }
     {
         carry(&mut self.spans, place, -(demand as i32));
     }
@@ -42,7 +43,8 @@ impl SlotBook {
     pub(crate) fn forgive_at(&mut self, place: usize, demand: u32)
         requires within { place < length (slot_boundaries self.old) }
         requires owed { demand ≤ (boundary_at (slot_boundaries self.old) place).due }
-        ensures { slot_meaning self.new ≡ with_boundaries (slot_meaning self.old) (with_due_at (slot_boundaries self.old) place ((boundary_at (slot_boundaries self.old) place).due - demand)) }
+        ensures { slot_meaning self.new ≡ with_boundaries (slot_meaning self.old)
+            (with_due_at (slot_boundaries self.old) place ((boundary_at (slot_boundaries self.old) place).due - demand)) }
     {
         carry(&mut self.spans, place, demand as i32);
     }
@@ -61,7 +63,8 @@ impl SlotBook {
     // Lets a slot pass for the first boundary: what it costs and what it serves cancel out, so no record is touched.
     pub(crate) fn pass_for_first(&mut self)
         requires { 1 ≤ (boundary_at (slot_boundaries self.old) 0).due }
-        ensures { slot_meaning self.new ≡ passed (with_boundaries (slot_meaning self.old) (with_due_at (slot_boundaries self.old) 0 ((boundary_at (slot_boundaries self.old) 0).due - 1))) None }
+        ensures { slot_meaning self.new ≡ passed (with_boundaries (slot_meaning self.old)
+            (with_due_at (slot_boundaries self.old) 0 ((boundary_at (slot_boundaries self.old) 0).due - 1))) None }
     {
         self.time.clock += 1;
         drop_ended(&mut self.spans, self.time.clock);

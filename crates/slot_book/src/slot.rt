@@ -8,7 +8,7 @@ ghost use Rattle.slot_book.specs.Spans.{spans_of, dues_of};
 use crate::span::Span;
 use capacity::Timeline;
 
-// A clock, a horizon, and the intervals to come with the spare capacity of each. What is due is worked out from the spares.
+// A timeline, and the intervals to come with the spare capacity of each. What is due is worked out from the spares.
 #[derive(Drop)]
 pub struct SlotBook {
     pub(crate) time: Timeline,

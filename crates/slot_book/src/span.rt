@@ -36,16 +36,16 @@ impl Span {
         ensures changed { self.new ≡ with_more self.old by }
         ensures handed { result ≡ handed_on self.old.spare by }
     {
-        let before = below_nought(self.spare);
+        let before = self.spare.min(0);
         self.spare += by;
-        below_nought(self.spare) - before
+        self.spare.min(0) - before
     }
 
     // What the interval takes from before its start: as much as its spare is below nought.
     pub(crate) fn lacking(self) -> u32
         ensures { pos result +ℤ int_min (pos 0) self.spare ≡ pos 0 }
     {
-        below_nought(self.spare).unsigned_abs()
+        self.spare.min(0).unsigned_abs()
     }
 
     // The same interval, where it begins at a slot and so much of it is used.
@@ -105,11 +105,4 @@ impl Span {
         let width = (at - start) as i32;
         width.min(self.spare).max(0) as u32
     }
-}
-
-// What counts of a spare for the intervals before: only what is below nought.
-fn below_nought(spare: i32) -> i32
-    ensures { result ≡ int_min (pos 0) spare }
-{
-    spare.min(0)
 }

@@ -1,10 +1,7 @@
 use Rattle.std.proofs.Common.{◌≡◌, suc, ◌-◌, ◌∙◌, arith, w32, SFits, rules}
 use Rattle.std.proofs.lemmas.Int.{ints, to_z-of_z}
-use Rattle.slot_book.proofs.Walking.{begins, standing_small, turn_goes_on, turn_stops, ends_first}
+use Rattle.slot_book.proofs.Walking.{standing_small, turn_goes_on, turn_stops, ends_first}
 use Rattle.slot_book.proofs.walk.carry.Goals as goal
-
-pub loop-place-init : goal.loop-place-init
-loop-place-init c = begins c.args.spans.now c.args.from _ c.requires.within
 
 pub change-change-requires : goal.change-change-requires
 change-change-requires c =
