@@ -1,5 +1,5 @@
 -- The walk back, as it stands before each step.
-use Rattle.std.proofs.Common.{◌≡◌, ℕ, zero, suc, ◌+◌, ◌<◌, ◌≤◌, ◌≢◌, List, length, get_or, set, ℤ, pos, ◌+ℤ◌, ◌≤ℤ◌, ◌<ℤ◌, sym, ap, ◌∙◌, ⊎_elim, arith, length-set, get_or-set_other, get_or-set_same}
+use Rattle.std.proofs.Common.{◌≡◌, ℕ, suc, ◌+◌, ◌<◌, ◌≤◌, ◌≢◌, List, length, get_or, set, ℤ, pos, ◌+ℤ◌, ◌≤ℤ◌, ◌<ℤ◌, sym, ap, ◌∙◌, ⊎_elim, arith, length-set, get_or-set_other, get_or-set_same}
 use Rattle.std.proofs.lemmas.Int.{ints, clamps, by_lt_z}
 use Rattle.std.proofs.lemmas.Bool.{cases_lt}
 use Rattle.std.proofs.lemmas.List.{get_or_default}
@@ -100,24 +100,6 @@ stops old now from p whole change w none e =
       negative = w.negative e;
       ended = λ later. rw (w.ahead p (omega arith)) at (handed_none (span_at now p).spare (rw (w.one e) at none));
     }
-
--- or no interval lies before, whatever is handed on
-pub ends_first :
-    (old now : List Span) (from p : ℕ) (whole change : ℤ) → p ≡ 0 → Walking old now from p whole change →
-    (now ≡ carried old from whole) × (whole ≡ pos 1 → Rose old now from 0)
-ends_first old now from (suc p) whole change first w = absurd (omega arith)
-ends_first old now from zero whole change first w = (
-  w.leads,
-  λ e.
-      record {
-        back = omega arith;
-        rose = w.rose e;
-        stayed = λ k lt. absurd (omega arith);
-        stayed_behind = w.behind;
-        negative = λ k gt le. w.negative e k (omega arith) le;
-        ended = λ later. absurd (omega arith);
-      },
-)
 
 -- a turn of the walk, with the record as it was read, r as it is written, and what is handed on
 module _ (old now : List Span) (from p : ℕ) (whole change : ℤ) (d r : Span) (next : ℤ) (w : Walking old now from (suc p) whole change) (changed : r ≡ with_more (get_or now p d) change) (handed : next ≡ handed_on (get_or now p d).spare change) where

@@ -1,6 +1,6 @@
 use Rattle.std.proofs.Common.{◌≡◌, suc, ◌-◌, ◌∙◌, arith, w32, SFits, rules}
 use Rattle.std.proofs.lemmas.Int.{ints, to_z-of_z}
-use Rattle.slot_book.proofs.Walking.{standing_small, turn_goes_on, turn_stops, ends_first}
+use Rattle.slot_book.proofs.Walking.{standing_small, turn_goes_on, turn_stops}
 use Rattle.slot_book.proofs.walk.carry.Goals as goal
 
 pub change-change-requires : goal.change-change-requires
@@ -21,14 +21,5 @@ returns-then-change-eq0 c =
     let end =
     turn_stops _ _ _ _ _ _ _ _ _ c.loop-place.invariant c.change-change.ensures.changed c.change-change.ensures.handed
     (omega (arith, ints))
-    in
-    record { after = rw whole at end.0; rose = λ one. end.1 (whole ∙ one) }
-
-pub returns-else-change-eq0 : goal.returns-else-change-eq0
-returns-else-change-eq0 c =
-    let whole = to_z-of_z w32 c.args.change c.ranges.change in
-    let end =
-    ends_first _ _ _ _ _ _ (omega arith)
-    (turn_goes_on _ _ _ _ _ _ _ _ _ c.loop-place.invariant c.change-change.ensures.changed c.change-change.ensures.handed (λ none. omega (arith, ints, none)))
     in
     record { after = rw whole at end.0; rose = λ one. end.1 (whole ∙ one) }
