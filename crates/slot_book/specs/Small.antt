@@ -1,4 +1,4 @@
--- Numbers of at most a longest horizon, above and below nought. Spares and their changes are, so that no sum of two runs over.
+-- Numbers of at most a longest horizon, above and below nought. Spares are, so that no sum of two runs over.
 use Rattle.std.specs.Prelude.{ℤ, pos, ◌+ℤ◌, ◌≤ℤ◌}
 use Rattle.terms.specs.Limits.{longest_horizon}
 

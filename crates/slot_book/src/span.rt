@@ -14,6 +14,7 @@ pub(crate) struct Span {
     pub(crate) spare: i32,
 }
 
+// Contracts see the same two numbers; their bounds stand here.
 impl Model for Span {
     ghost use Rattle.slot_book.specs.Interval.{Interval, IsWithinHorizon};
 
