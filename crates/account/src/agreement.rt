@@ -1,4 +1,4 @@
-// Whether the accounts of the three books are the same text.
+//! Whether the accounts of the three books are the same text.
 ghost use Rattle.std.specs.Prelude.{◌↔◌, IsTrue};
 ghost use Rattle.account.specs.Agreement.{SameThree, ClosedBy};
 

@@ -1,5 +1,5 @@
-// Prints the account of a day in a dispatcher's words, over each of the three books: what each interval can spare, what a further
-// demand meets, and how the book stands after some slots have run. The last line says whether the three accounts are the same.
+//! Prints the account of a day in a dispatcher's words, over each of the three books: what each interval can spare, what a further
+//! demand meets, and how the book stands after some slots have run. The last line says whether the three accounts are the same.
 #![tactic(auto)]
 
 mod agreement;

@@ -1,4 +1,4 @@
-// The lines of the account: one for each interval of a book.
+//! The lines of the account: one for each interval of a book.
 ghost use Rattle.std.specs.Prelude.{◌≡◌, ◌+◌};
 ghost use Rattle.terms.specs.Answers.{said, value};
 ghost use Rattle.capacity.specs.Spare.{spare as spare_of};
@@ -8,10 +8,10 @@ use capacity::Book;
 use std::fmt;
 use terms::Refusal;
 
-// The heads of the columns.
+/// The heads of the columns.
 pub const HEADING: &str = "interval    from      to   width     due   spare";
 
-// An interval with its two ends, its width, the demand due at its end and its spare capacity.
+/// An interval with its two ends, its width, the demand due at its end and its spare capacity.
 #[derive(Clone, Copy)]
 pub struct Row {
     pub interval: usize,

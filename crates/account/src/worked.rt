@@ -1,4 +1,4 @@
-// The account of the worked example, over any book.
+//! The account of the worked example, over any book.
 ghost use Rattle.std.specs.Prelude.{◌≡◌, IfOk, OnOk};
 ghost use Rattle.capacity.specs.Calls.{cleared, owe_leaves};
 ghost use Rattle.capacity.specs.Filled.{filled, ran};

@@ -1,4 +1,4 @@
-// Calls of a book as values, so that cases can stand in a table.
+//! Calls of a book as values, so that cases can stand in a table.
 use capacity::Book;
 use std::alloc::{AllocError, Global};
 use terms::Refusal;

@@ -1,4 +1,4 @@
-// Tables of cases that every book must pass: each refusal with its number, at its edges, and that it changes nothing.
+//! Tables of cases that every book must pass: each refusal with its number, at its edges, and that it changes nothing.
 #![tactic(auto)]
 
 #[cfg(test)]

@@ -92,9 +92,11 @@ placed s bs h (suc k) r le lt within start end due behind e₁ e₂ e₃ e₄ =
     rw (e₁, e₂, e₃, e₄) (rw same (placed_at s bs h k r le (omega arith)))
 
 -- behind the last interval nothing is taken
-pub short_all : (s : ℕ) (bs : List Boundary) → short_from s bs (length bs) ≡ 0
-short_all s [] = refl
-short_all s (b ∷ bs) = short_all b.end bs
+pub short_past : (s : ℕ) (bs : List Boundary) (k : ℕ) → length bs ≤ k → short_from s bs k ≡ 0
+short_past s [] zero le = refl
+short_past s [] (suc k) le = refl
+short_past s (b ∷ bs) zero le = absurd (omega arith)
+short_past s (b ∷ bs) (suc k) le = short_past b.end bs k (omega arith)
 
 -- room never passes the slots to come
 room_le : (s : ℕ) (bs : List Boundary) (h d : ℕ) → rises s bs h ≡ true → room s bs d + s ≤ h

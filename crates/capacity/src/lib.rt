@@ -1,4 +1,4 @@
-// Capacity books: what a cart still has to give, interval by interval.
+//! Capacity books: what a cart still has to give, interval by interval.
 #![tactic(auto)]
 
 mod book;

@@ -1,4 +1,4 @@
-// The record of the deferred book.
+//! The record of the deferred book.
 ghost use Rattle.std.specs.Prelude.{◌≡◌, ◌+◌, true};
 ghost use Rattle.capacity.specs.Slack.{rises};
 ghost use Rattle.slot_book.specs.Slot.{slot_meaning};
@@ -6,7 +6,7 @@ ghost use Rattle.slot_book.specs.Slot.{slot_meaning};
 use crate::notes::Notes;
 use slot_book::SlotBook;
 
-// A slot-by-slot book as it stood when it was last settled, and the notes of the slots that have passed since.
+/// A slot-by-slot book as it stood when it was last settled, and the notes of the slots that have passed since.
 #[derive(Drop)]
 pub struct DeferredBook {
     pub(crate) settled: SlotBook,

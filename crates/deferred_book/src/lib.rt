@@ -1,4 +1,4 @@
-// The deferred book: it notes the slots that pass, and brings a slot-by-slot book up to date only when someone asks.
+//! The deferred book: it notes the slots that pass, and brings a slot-by-slot book up to date only when someone asks.
 #![tactic(auto, using(crate::proofs::Keeping::unnoted_meaning))]
 
 mod deferred;

@@ -1,5 +1,5 @@
-// The deferred book shows every line of a book. A run notes its slot, unless that ends the first interval; then, and in any other
-// call that looks at what is due, the book settles first and leaves the rest to the slot-by-slot book.
+//! The deferred book shows every line of a book. A run notes its slot, unless that ends the first interval; then, and in any other
+//! call that looks at what is due, the book settles first and leaves the rest to the slot-by-slot book.
 ghost use Rattle.deferred_book.specs.Deferred.{deferred_meaning};
 
 use crate::DeferredBook;

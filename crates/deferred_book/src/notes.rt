@@ -1,4 +1,4 @@
-// The record of the slots that have passed since a book was last settled.
+//! The record of the slots that have passed since a book was last settled.
 ghost use Rattle.std.specs.Prelude.{◌≡◌, ℕ, ◌≤◌, length, slice_index};
 ghost use Rattle.terms.specs.Limits.{most_boundaries};
 

@@ -1,4 +1,4 @@
-// Noting a slot, in a constant number of steps.
+//! Noting a slot, in a constant number of steps.
 ghost use Rattle.std.specs.Prelude.{◌≡◌, ◌+◌, ◌<◌, slice_index};
 ghost use Rattle.std.specs.Option.{ForSome};
 ghost use Rattle.terms.specs.Limits.{longest_horizon, most_boundaries};

@@ -1,4 +1,4 @@
-// Settling: the slot-by-slot book catches up with the noted slots, and none is noted any more.
+//! Settling: the slot-by-slot book catches up with the noted slots, and none is noted any more.
 ghost use Rattle.std.specs.Prelude.{◌≡◌};
 ghost use Rattle.slot_book.specs.Slot.{slot_meaning};
 ghost use Rattle.deferred_book.specs.Deferred.{deferred_meaning};

@@ -1,4 +1,4 @@
-// The plain book: it keeps the demands, and works spare capacity out for each question.
+//! The plain book: it keeps the demands, and works spare capacity out for each question.
 #![tactic(auto)]
 
 mod lines;

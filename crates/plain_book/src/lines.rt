@@ -1,4 +1,4 @@
-// The plain book shows every line of a book. Each call looks before it writes, so that a refusal changes nothing.
+//! The plain book shows every line of a book. Each call looks before it writes, so that a refusal changes nothing.
 ghost use Rattle.std.specs.Prelude.{◌≡◌, None};
 ghost use Rattle.capacity.specs.Calls.{run_says, run_leaves};
 ghost use Rattle.terms.specs.Answers.{said};

@@ -1,4 +1,4 @@
-// Finding places in the plain book, and the latest start of the work from a place on.
+//! Finding places in the plain book, and the latest start of the work from a place on.
 ghost use Rattle.std.specs.Prelude.{◌≡◌, ◌-◌, ◌≤◌, min, drop, vec_len};
 ghost use Rattle.capacity.specs.Spare.{headroom};
 ghost use Rattle.capacity.specs.Intervals.{start_at};

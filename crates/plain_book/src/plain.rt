@@ -1,4 +1,4 @@
-// The record of the plain book. Its room is taken once, in `new`.
+//! The record of the plain book. Its room is taken once, in `new`.
 ghost use Rattle.std.specs.Prelude.{◌≡◌, ◌≤◌, true, vec_len, vec_capacity};
 ghost use Rattle.capacity.specs.Shortage.{short};
 ghost use Rattle.capacity.specs.Slack.{rises};
@@ -6,7 +6,7 @@ ghost use Rattle.terms.specs.Limits.{most_boundaries};
 
 use capacity::{Boundary, Timeline};
 
-// The slots to come, and the boundaries to come with the demand due at each.
+/// The slots to come, and the boundaries to come with the demand due at each.
 #[derive(Drop)]
 pub struct PlainBook {
     pub(crate) time: Timeline,

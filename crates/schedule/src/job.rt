@@ -1,4 +1,4 @@
-// A job that is guaranteed: its number, its window from the release up to the deadline, and what is left of its demand.
+/// A job that is guaranteed: its number, its window from the release up to the deadline, and what is left of its demand.
 #[derive(Clone, Copy, PartialEq, Eq, Debug)]
 pub struct Job {
     pub number: u32,

@@ -1,4 +1,4 @@
-// Schedules: who gets which slot, what it means that the guarantees are kept, and the test whether one more job can be.
+//! Schedules: who gets which slot, what it means that the guarantees are kept, and the test whether one more job can be.
 #![tactic(auto)]
 
 mod job;

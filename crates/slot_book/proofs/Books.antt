@@ -1,5 +1,5 @@
 -- What is known of the records of a book, by their places.
-use Rattle.std.proofs.Common.{◌≡◌, ℕ, zero, suc, ◌+◌, ◌-◌, ◌<◌, ◌≤◌, List, [], ◌∷◌, length, get_or, pos, ◌+ℤ◌, vec_items, sym, refl, ap, ◌∙◌, subst, add-one, arith, rules, Option, Some, None, Bor, vec_len, ◌<◌}
+use Rattle.std.proofs.Common.{◌≡◌, ℕ, zero, suc, ◌+◌, ◌-◌, ◌<◌, ◌≤◌, List, [], ◌∷◌, length, get_or, pos, ◌+ℤ◌, vec_items, sym, refl, ap, ◌∙◌, subst, add-one, arith, rules, Option, Some, None, Bor, ◌<◌}
 use Rattle.std.proofs.lemmas.List.{get_or_read}
 use Rattle.std.specs.Int.{int_min}
 use Rattle.std.specs.Option.{MatchOption}
@@ -8,7 +8,7 @@ use Rattle.std.proofs.lemmas.Int.{ints, clamps}
 use Rattle.capacity.specs.declared.boundary.Boundary.{Boundary}
 use Rattle.capacity.specs.Intervals.{boundary_at, start_at}
 use Rattle.capacity.specs.Spare.{spares}
-use Rattle.capacity.proofs.Suffixes.{placed_at, short_from, short_all}
+use Rattle.capacity.proofs.Suffixes.{placed_at, short_from, short_past}
 use Rattle.terms.specs.Limits.{most_boundaries}
 use Rattle.slot_book.specs.Carry.{span_at, AllSmall}
 use Rattle.slot_book.specs.Mend.{start_of}
@@ -106,15 +106,14 @@ slot_few b =
 
 -- what the intervals from a place on lack, from the record there if there is one
 pub lacking_told :
-    (b : SlotBook) (k n : ℕ) (xs : List Span) (o : Option (Bor Span)) (P : Bor Span → Type 0) → k ≤ vec_len b.spans → xs ≡ vec_items b.spans →
+    (b : SlotBook) (k n : ℕ) (xs : List Span) (o : Option (Bor Span)) (P : Bor Span → Type 0) → xs ≡ vec_items b.spans →
     MatchOption o (length xs ≤ k) (λ x. (k < length xs) × HoldsAt (λ y. x.now ≡ y) xs k) →
     MatchOption o (n ≡ 0) P →
     ((x : Bor Span) → P x → pos n +ℤ int_min (pos 0) x.now.spare ≡ pos 0) →
     n ≡ short_from b.time.clock (slot_boundaries b) k
-lacking_told b k n xs None P within same past none says =
+lacking_told b k n xs None P same past none says =
     let past' : length (vec_items b.spans) ≤ k = rw same at past in
-    let all : k ≡ length (slot_boundaries b) = omega (arith, length_dues b.time.clock (vec_items b.spans), b.spans.ok.0) in
-    none ∙ rw all (sym (short_all b.time.clock (slot_boundaries b)))
-lacking_told b k n xs (Some x) P within same held gave says =
+    none ∙ sym (short_past b.time.clock (slot_boundaries b) k (omega (arith, length_dues b.time.clock (vec_items b.spans))))
+lacking_told b k n xs (Some x) P same held gave says =
     let at = read_in b x.now k (rw same at held.0) (rw same at (held.1 x.now)) in
     omega (arith, ints, clamps, at.lacks, at.spare, says x gave)

@@ -8,7 +8,7 @@ use Rattle.capacity.specs.declared.boundary.Boundary.{Boundary}
 use Rattle.capacity.specs.Intervals.{boundary_at, start_at}
 use Rattle.capacity.specs.Noted.{unserved, first_end}
 use Rattle.capacity.proofs.Noted.{length_unserved, end_unserved, due_unserved, start_unserved}
-use Rattle.capacity.proofs.Suffixes.{short_from, short_at, short_all, spare_at, fits_at}
+use Rattle.capacity.proofs.Suffixes.{short_from, short_at, short_past, spare_at, fits_at}
 use Rattle.slot_book.specs.Carry.{span_at}
 use Rattle.slot_book.specs.Mend.{start_of, Mendable}
 use Rattle.slot_book.specs.Spans.{spans_of, dues_of}
@@ -41,8 +41,8 @@ mending_begins s t xs ns n all =
       lengths = refl;
       untouched = λ k lt. refl;
       done = λ k ge lt. absurd (omega arith);
-      was = rw old (sym (short_all s bs));
-      is = rw new (sym (short_all t (unserved bs ns)));
+      was = sym (short_past s bs n (omega (arith, old)));
+      is = sym (short_past t (unserved bs ns) n (omega (arith, new)));
       less = λ lt. omega arith;
     }
 

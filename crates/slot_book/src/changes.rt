@@ -1,4 +1,4 @@
-// What the calls of the slot-by-slot book do to its records. Each is told by the demands that the new spares tell.
+//! What the calls of the slot-by-slot book do to its records. Each is told by the demands that the new spares tell.
 ghost use Rattle.std.specs.Prelude.{◌≡◌, ◌+◌, ◌-◌, ◌<◌, ◌≤◌, true, Some, None, length, vec_len, vec_capacity};
 ghost use Rattle.terms.specs.Answers.{said};
 ghost use Rattle.terms.specs.Limits.{most_boundaries};
@@ -26,7 +26,7 @@ impl SlotBook {
         let start = self.start(place);
         let (left, right) = self.spans[place].split_at(start, deadline);
         self.spans[place] = right;
-        let _ = self.spans.insert(place, left);
+        self.spans.insert(place, left).unwrap();
     }
 
     // So much more is due at the boundary at a place.

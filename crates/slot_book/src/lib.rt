@@ -1,4 +1,4 @@
-// The slot-by-slot book: it keeps the spares, and mends them at every run.
+//! The slot-by-slot book: it keeps the spares, and mends them at every run.
 #![tactic(auto)]
 
 mod changes;

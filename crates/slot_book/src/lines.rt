@@ -1,4 +1,4 @@
-// The slot-by-slot book shows every line of a book. Each call looks before it writes, so that a refusal changes nothing.
+//! The slot-by-slot book shows every line of a book. Each call looks before it writes, so that a refusal changes nothing.
 ghost use Rattle.slot_book.specs.Slot.{slot_meaning};
 
 use crate::SlotBook;
@@ -85,7 +85,7 @@ impl Book for SlotBook {
     }
 
     fn spare(&mut self, interval: usize) -> Result<i32, Refusal> {
-        if interval < 1 || interval > self.len() {
+        if !(1..=self.len()).contains(&interval) {
             return Err(Refusal::Unfit);
         }
         let span = self.spans[interval - 1];

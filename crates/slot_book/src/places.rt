@@ -1,4 +1,4 @@
-// Finding places in the slot-by-slot book, and working demands out from neighbouring spares.
+//! Finding places in the slot-by-slot book, and working demands out from neighbouring spares.
 ghost use Rattle.std.specs.Prelude.{◌≡◌, ◌<◌, ◌≤◌, length, drop, vec_len};
 ghost use Rattle.capacity.specs.Intervals.{start_at, boundary_at};
 ghost use Rattle.capacity.specs.Noted.{first_end};
@@ -12,7 +12,7 @@ use crate::settle::start_of;
 use terms::Refusal;
 
 impl SlotBook {
-    // The horizon, which is the last boundary while any is left.
+    /// The horizon, which is the last boundary while any is left.
     pub fn horizon(&self) -> u32
         ensures { result ≡ (slot_meaning self.now).horizon }
     {
@@ -27,7 +27,7 @@ impl SlotBook {
         self.spans.len()
     }
 
-    // The place of a deadline among the boundaries, or the place that it would have.
+    /// The place of a deadline among the boundaries, or the place that it would have.
     pub fn place(&self, deadline: u32) -> Result<usize, usize>
         ensures { Found (slot_meaning self.now).boundaries deadline result }
     {
@@ -44,20 +44,19 @@ impl SlotBook {
 
     // What the intervals from a place on take from before it; nothing behind the last.
     pub(crate) fn lacking(&self, place: usize) -> u32
-        requires { place ≤ vec_len self.now.spans }
         ensures { result ≡ short (start_at self.now.time.clock (slot_boundaries self.now) place) (drop place (slot_boundaries self.now)) }
     {
         self.spans.get(place).map_or(0, |span| span.lacking())
     }
 
-    // Where the first interval ends; the clock where none is left.
+    /// Where the first interval ends; the clock where none is left.
     pub fn first_end(&self) -> u32
         ensures { result ≡ first_end (slot_meaning self.now).clock (slot_meaning self.now).boundaries }
     {
         self.spans.first().map_or(self.time.clock, |span| span.end)
     }
 
-    // What is due at the boundary at a place, worked out from neighbouring spares; nothing where there is none.
+    /// What is due at the boundary at a place, worked out from neighbouring spares; nothing where there is none.
     pub fn due(&self, place: usize) -> u32
         ensures { result ≡ (boundary_at (slot_meaning self.now).boundaries place).due }
     {

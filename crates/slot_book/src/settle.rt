@@ -1,4 +1,4 @@
-// Several slots of the first interval at once, in one pass over the intervals.
+//! Several slots of the first interval at once, in one pass over the intervals.
 ghost use Rattle.std.specs.Prelude.{◌≡◌, ◌+◌, ◌<◌, ◌≤◌, length, slice_index};
 ghost use Rattle.terms.specs.Answers.{said};
 ghost use Rattle.capacity.specs.Noted.{unserved, first_end, catch_up_says, catch_up_leaves};
@@ -12,8 +12,8 @@ use crate::span::Span;
 use terms::Refusal;
 
 impl SlotBook {
-    // Lets several slots pass at once, of which each boundary, in order, has been given so many. Refused 4 if they pass the end of
-    // the first interval.
+    /// Lets several slots pass at once, of which each boundary, in order, has been given so many. Refused 4 if they pass the end of
+    /// the first interval.
     pub fn catch_up(&mut self, slots: u32, served: &[u32]) -> Result<(), Refusal>
         ensures answer { said result ≡ catch_up_says (slot_meaning self.old) slots }
         ensures book { slot_meaning self.new ≡ catch_up_leaves (slot_meaning self.old) slots served.now }

@@ -1,4 +1,4 @@
-// The record of the slot-by-slot book. Its room is taken once, in `new`.
+//! The record of the slot-by-slot book. Its room is taken once, in `new`.
 ghost use Rattle.std.specs.Prelude.{◌≡◌, ◌≤◌, true, vec_len, vec_capacity};
 ghost use Rattle.capacity.specs.Shortage.{short};
 ghost use Rattle.capacity.specs.Slack.{rises};
@@ -8,7 +8,7 @@ ghost use Rattle.slot_book.specs.Spans.{spans_of, dues_of};
 use crate::span::Span;
 use capacity::Timeline;
 
-// A timeline, and the intervals to come with the spare capacity of each. What is due is worked out from the spares.
+/// A timeline, and the intervals to come with the spare capacity of each. What is due is worked out from the spares.
 #[derive(Drop)]
 pub struct SlotBook {
     pub(crate) time: Timeline,

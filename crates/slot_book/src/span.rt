@@ -1,5 +1,5 @@
-// One record of a book that keeps spares, and its arithmetic. It is signed: a spare may be negative, and then the interval
-// takes as much from the one before it.
+//! One record of a book that keeps spares, and its arithmetic. It is signed: a spare may be negative, and then the interval
+//! takes as much from the one before it.
 ghost use Rattle.std.specs.Prelude.{◌≡◌, ◌+◌, ◌≤◌, pos, ◌+ℤ◌, ◌-ℤ◌, ◌≤ℤ◌};
 ghost use Rattle.std.specs.Int.{int_min};
 ghost use Rattle.capacity.specs.Spare.{positive_part};

@@ -1,4 +1,4 @@
-// The walk back from an interval whose spare changes to those before it.
+//! The walk back from an interval whose spare changes to those before it.
 ghost use Rattle.std.specs.Prelude.{◌≡◌, ◌<◌, length, pos};
 ghost use Rattle.slot_book.specs.Carry.{carried, Rose, AllSmall};
 

@@ -1,4 +1,4 @@
-// The words that every crate shares: refusals with their numbers, and the limits.
+//! The words that every crate shares: refusals with their numbers, and the limits.
 #![tactic(auto)]
 
 pub mod limits;

@@ -1,4 +1,4 @@
-// Why a call says no. A refusal changes nothing, and where several apply the smallest number is answered.
+//! Why a call says no. A refusal changes nothing, and where several apply the smallest number is answered.
 ghost use Rattle.std.specs.Prelude.{◌≡◌, ◌++◌, Some, codes, decimal};
 ghost use Rattle.terms.specs.Answers.{number_of};
 
@@ -7,34 +7,34 @@ use std::fmt;
 
 #[derive(Clone, Copy, PartialEq, Eq, Debug)]
 pub enum Refusal {
-    // The bytes end inside a number, or where one must begin.
+    /// The bytes end inside a number, or where one must begin.
     Truncated = 1,
-    // A number is not in its shortest form, or has a fourth group.
+    /// A number is not in its shortest form, or has a fourth group.
     Overlong = 2,
-    // A horizon or a count of jobs is out of its range.
+    /// A horizon or a count of jobs is out of its range.
     OutOfRange = 3,
-    // A window, a demand or a place breaks its rule.
+    /// A window, a demand or a place breaks its rule.
     Unfit = 4,
-    // Bytes follow the last job.
+    /// Bytes follow the last job.
     Surplus = 5,
-    // Nothing is held under that number, or not so much is due there.
+    /// Nothing is held under that number, or not so much is due there.
     NotHeld = 6,
-    // The clock stands at the horizon.
+    /// The clock stands at the horizon.
     AtHorizon = 7,
-    // The plan's records are full, or the buffer is too short.
+    /// The plan's records are full, or the buffer is too short.
     Full = 8,
-    // There would be one boundary too many.
+    /// There would be one boundary too many.
     TooManyBoundaries = 9,
-    // Every number has been given out.
+    /// Every number has been given out.
     NumbersSpent = 10,
-    // No capacity is left for it.
+    /// No capacity is left for it.
     NoCapacity = 11,
-    // The order line is malformed.
+    /// The order line is malformed.
     BadLine = 12,
 }
 
 impl Refusal {
-    // The number by which this refusal is known outside.
+    /// The number by which this refusal is known outside.
     pub fn number(self) -> u8
         ensures { result ≡ number_of self }
     {

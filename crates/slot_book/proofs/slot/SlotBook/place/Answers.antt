@@ -12,7 +12,7 @@ returns c =
     let xs = vec_items b.spans in
     let lent = c.deref.ensures.value in
     let facts = c.binary_search_by_key.ensures in
-    let by_end = facts.position (λ x. x.end) (answers_always _ _ _ (λ f a r g called. search rules)) in
+    let by_end = facts.position (λ x. x.end) (search (rules, answers_always)) in
     found (λ x. x.end) (record { end = 0; spare = pos 0 }) xs b.time.clock (slot_boundaries b) b.time.horizon c.args.deadline
     b.ordered (sym (length_dues b.time.clock xs)) (λ k lt. sym (end_told b.time.clock xs k)) c.binary_search_by_key.result (rw lent at facts.bound)
     (rw lent at by_end)
