@@ -33,8 +33,11 @@ later_than t [] = []
 later_than t (b ∷ bs) = if nat_lt t b.end then b ∷ bs else bs
 
 -- A slot or deadline that is still to come: after the clock and not after the horizon.
+abbrev pub lies_ahead : ℕ → ℕ → ℕ → Bool
+lies_ahead clock horizon d = nat_lt clock d && nat_le d horizon
+
 abbrev pub to_come : Meaning → ℕ → Bool
-to_come m d = nat_lt m.clock d && nat_le d m.horizon
+to_come m d = lies_ahead m.clock m.horizon d
 
 -- The same book with other boundaries.
 abbrev pub with_boundaries : Meaning → List Boundary → Meaning
@@ -93,8 +96,11 @@ abbrev pub unowned : Meaning → Option ℕ → Bool
 unowned m None = false
 unowned m (Some d) = not (is_due m d 1)
 
+abbrev pub pass_says : ℕ → ℕ → Said (Unit {0})
+pass_says clock horizon = refuse 7 (clock == horizon) (value tt)
+
 abbrev pub run_says : Meaning → Option ℕ → Said (Unit {0})
-run_says m owner = refuse 6 (unowned m owner) (refuse 7 (m.clock == m.horizon) (value tt))
+run_says m owner = refuse 6 (unowned m owner) (pass_says m.clock m.horizon)
 
 abbrev pub passed : Meaning → Option ℕ → Meaning
 passed m owner =

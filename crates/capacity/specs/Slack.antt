@@ -1,5 +1,5 @@
 -- Slack, and what spare capacity and headroom say about it: the two facts that make slot shifting right.
-use Rattle.std.specs.Prelude.{◌≡◌, ℕ, ◌+◌, ◌<◌, ◌≤◌, Bool, true, if◌then◌else◌, ◌&&◌, List, [], ◌∷◌, pos, ◌≤ℤ◌, ◌==◌, nat_le, nat_lt}
+use Rattle.std.specs.Prelude.{◌≡◌, ℕ, ◌+◌, ◌<◌, ◌≤◌, Bool, true, if◌then◌else◌, ◌&&◌, List, [], ◌∷◌, pos, ◌≤ℤ◌, ◌↔◌, ◌==◌, nat_le, nat_lt}
 use Rattle.capacity.specs.declared.boundary.Boundary.{Boundary}
 use Rattle.capacity.specs.Meaning.{Meaning}
 use Rattle.capacity.specs.Spare.{spare, headroom}
@@ -30,16 +30,12 @@ Ordered m = rises m.clock m.boundaries m.horizon ≡ true
 abbrev pub NoNegativeSlack : Meaning → Type 0
 NoNegativeSlack m = SlackFrom m (m.clock + 1) 0
 
--- P holds exactly when Q does.
-abbrev pub Exactly : Type 0 → Type 0 → Type 0
-Exactly P Q = (P → Q) × (Q → P)
-
 -- The headroom at d is the least slack from d on.
 abbrev pub HeadroomIsLeastSlack : Meaning → ℕ → ℕ → Type 0
 HeadroomIsLeastSlack m d c =
-    Ordered m → NoNegativeSlack m → m.clock < d → d ≤ m.horizon → Exactly (c ≤ headroom m d) (SlackFrom m d c)
+    Ordered m → NoNegativeSlack m → m.clock < d → d ≤ m.horizon → (c ≤ headroom m d) ↔ SlackFrom m d c
 
 -- The first interval has a slot to spare exactly when every slack is at least 1.
 abbrev pub SpareMeansSlack : Meaning → Type 0
 SpareMeansSlack m =
-    Ordered m → NoNegativeSlack m → m.clock < m.horizon → Exactly (pos 1 ≤ℤ spare m 1) (SlackFrom m (m.clock + 1) 1)
+    Ordered m → NoNegativeSlack m → m.clock < m.horizon → (pos 1 ≤ℤ spare m 1) ↔ SlackFrom m (m.clock + 1) 1

@@ -59,7 +59,7 @@ pub trait Book {
         ensures same { meaning self.new ≡ meaning self.old };
 }
 
-/// A book that can be made. It takes room for every boundary that it may come to hold, and no call of a book takes memory.
+/// A book that can be made. `new` takes room for every boundary that the book may come to hold; no other call takes memory.
 pub trait NewBook: Book {
     /// A book cleared to the shortest horizon.
     fn new(heap: Global) -> Result<Self, AllocError>

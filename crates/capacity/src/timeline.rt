@@ -1,8 +1,8 @@
-//! The slots of a book that are still to come: behind its clock, up to its horizon.
-ghost use Rattle.std.specs.Prelude.{◌≡◌, ◌+◌, ◌≤◌, IfOk, OnOk, OnErr, ◌==◌, ◌&&◌, nat_lt, nat_le};
+//! The slots of a book that are still to come: after its clock and up to its horizon.
+ghost use Rattle.std.specs.Prelude.{◌≡◌, ◌+◌, ◌≤◌, not, IfOk, OnOk, OnErr};
 ghost use Rattle.terms.specs.Answers.{said, mapped, refuse, value};
 ghost use Rattle.terms.specs.Limits.{longest_horizon};
-ghost use Rattle.capacity.specs.Calls.{clear_says};
+ghost use Rattle.capacity.specs.Calls.{clear_says, lies_ahead, pass_says};
 
 use terms::Refusal;
 use terms::limits::MAX_HORIZON;
@@ -17,7 +17,7 @@ pub struct Timeline {
 }
 
 impl Timeline {
-    /// Every slot up to a horizon. Refused 3 unless the horizon is 1 to 1,000,000.
+    /// A timeline at clock 0 with a horizon. Refused 3 unless the horizon is 1 to 1,000,000.
     pub fn new(horizon: u32) -> Result<Timeline, Refusal>
         ensures answer { mapped (λ _. tt) (said result) ≡ clear_says horizon }
         ensures clock { IfOk result (λ t. t.clock ≡ 0) }
@@ -29,16 +29,20 @@ impl Timeline {
         Ok(Timeline { clock: 0, horizon })
     }
 
-    /// Whether a slot or a deadline is after the clock and not after the horizon.
-    pub fn is_to_come(self, slot: u32) -> bool
-        ensures { result ≡ (nat_lt self.clock slot && nat_le slot self.horizon) }
+    /// Lets a slot or a deadline in that is still to come. Refused 4 unless it is after the clock and not after the horizon.
+    pub fn admit(self, slot: u32) -> Result<(), Refusal>
+        ensures { said result ≡ refuse 4 (not (lies_ahead self.clock self.horizon slot)) (value tt) }
     {
-        self.clock < slot && slot <= self.horizon
+        if self.clock < slot && slot <= self.horizon {
+            Ok(())
+        } else {
+            Err(Refusal::Unfit)
+        }
     }
 
     /// Lets a slot pass. Refused 7 at the horizon.
     pub fn pass(&mut self) -> Result<(), Refusal>
-        ensures answer { said result ≡ refuse 7 (self.old.clock == self.old.horizon) (value tt) }
+        ensures answer { said result ≡ pass_says self.old.clock self.old.horizon }
         ensures clock { OnOk result (self.new.clock ≡ self.old.clock + 1) }
         ensures horizon { self.new.horizon ≡ self.old.horizon }
         ensures refused { OnErr result (self.new ≡ self.old) }
@@ -48,5 +52,17 @@ impl Timeline {
         }
         self.clock += 1;
         Ok(())
+    }
+}
+
+impl Default for Timeline {
+    ghost is_default = { λ t. (t.clock ≡ 0) × (t.horizon ≡ 1) };
+
+    /// The shortest timeline: clock 0, horizon 1.
+    fn default() -> Self {
+        Timeline {
+            clock: 0,
+            horizon: 1,
+        }
     }
 }

@@ -1,10 +1,10 @@
-//! Why a call says no. A refusal changes nothing, and where several apply the smallest number is answered.
 ghost use Rattle.std.specs.Prelude.{◌≡◌, ◌++◌, Some, codes, decimal};
 ghost use Rattle.terms.specs.Answers.{number_of};
 
 use std::error::Error;
 use std::fmt;
 
+/// Why a call says no. A refusal changes nothing, and where several apply the smallest number is answered.
 #[derive(Clone, Copy, PartialEq, Eq, Debug)]
 pub enum Refusal {
     /// The bytes end inside a number, or where one must begin.
