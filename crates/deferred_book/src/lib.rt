@@ -5,7 +5,7 @@ mod deferred;
 mod lines;
 mod notes;
 mod noting;
-mod passing;
+mod owner;
 mod settling;
 
 pub use deferred::DeferredBook;

@@ -11,14 +11,11 @@ use terms::Refusal;
 use terms::limits::MAX_BOUNDARIES;
 
 impl NewBook for PlainBook {
-    fn new(heap: Global) -> Result<PlainBook, AllocError> {
+    fn new(heap: Global) -> Result<Self, AllocError> {
         let mut boundaries = Vec::with_capacity(heap, MAX_BOUNDARIES)?;
         boundaries.push_reserved(Boundary { end: 1, due: 0 });
         Ok(PlainBook {
-            time: Timeline {
-                clock: 0,
-                horizon: 1,
-            },
+            time: Timeline::default(),
             boundaries,
         })
     }
@@ -52,10 +49,8 @@ impl Book for PlainBook {
     }
 
     fn cut(&mut self, deadline: u32) -> Result<(), Refusal> {
-        if !self.time.is_to_come(deadline) {
-            return Err(Refusal::Unfit);
-        }
-        let Err(place) = self.find(deadline) else {
+        self.time.admit(deadline)?;
+        let Err(place) = self.place(deadline) else {
             return Ok(());
         };
         if self.boundaries.len() >= MAX_BOUNDARIES {
@@ -71,7 +66,7 @@ impl Book for PlainBook {
 
     fn owe(&mut self, deadline: u32, demand: u32) -> Result<(), Refusal> {
         let place = self
-            .find(deadline)
+            .place(deadline)
             .ok()
             .filter(|_| demand >= 1)
             .ok_or(Refusal::Unfit)?;
@@ -84,7 +79,7 @@ impl Book for PlainBook {
 
     fn forgive(&mut self, deadline: u32, demand: u32) -> Result<(), Refusal> {
         let place = self
-            .find(deadline)
+            .place(deadline)
             .ok()
             .filter(|&place| demand <= self.boundaries[place].due)
             .ok_or(Refusal::NotHeld)?;
@@ -116,9 +111,7 @@ impl Book for PlainBook {
     }
 
     fn headroom(&mut self, deadline: u32) -> Result<u32, Refusal> {
-        if !self.time.is_to_come(deadline) {
-            return Err(Refusal::Unfit);
-        }
+        self.time.admit(deadline)?;
         Ok(self.room(deadline))
     }
 }

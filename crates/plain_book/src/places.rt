@@ -9,14 +9,14 @@ ghost use Rattle.plain_book.specs.Plain.{plain_meaning};
 use crate::PlainBook;
 use capacity::Boundary;
 
-// The latest start of the work from a boundary on, from the latest start behind it.
+// By when the work due at a boundary and later must start, if the work due later must start at a slot.
 fn latest_start(behind: u32, boundary: &Boundary) -> u32
     ensures { result ≡ latest_start behind boundary.now }
 {
     boundary.end.min(behind).saturating_sub(boundary.due)
 }
 
-// What an interval has free before a slot, from where it begins and the latest start of the work from its end on.
+// What an interval has free before a slot, from where it begins and by when the work due at its end and later must start.
 fn free_before(slot: u32, start: u32, latest: u32) -> u32
     ensures { result ≡ min latest slot - start }
 {
@@ -25,7 +25,7 @@ fn free_before(slot: u32, start: u32, latest: u32) -> u32
 
 impl PlainBook {
     // The place of a deadline among the boundaries, or the place that it would have.
-    pub(crate) fn find(&self, deadline: u32) -> Result<usize, usize>
+    pub(crate) fn place(&self, deadline: u32) -> Result<usize, usize>
         ensures { Found self.now.boundaries.items deadline result }
     {
         self.boundaries
@@ -42,7 +42,7 @@ impl PlainBook {
             .map_or(self.time.clock, |before| before.end)
     }
 
-    // The latest start of the work from a place on.
+    // By when the work due from a place on must start.
     #[tactic(auto, using(std::proofs::lemmas::List::take_rest, crate::proofs::Latest::latest_of_reverse))]
     pub(crate) fn latest(&self, from: usize) -> u32
         requires { from ≤ vec_len self.now.boundaries }

@@ -6,7 +6,7 @@ ghost use Rattle.terms.specs.Limits.{most_boundaries};
 
 use capacity::{Boundary, Timeline};
 
-/// The slots to come, and the boundaries to come with the demand due at each.
+/// A book that keeps the demand due at each boundary, and works spare capacity out for each question.
 #[derive(Drop)]
 pub struct PlainBook {
     pub(crate) time: Timeline,

@@ -1,5 +1,5 @@
 -- Windows, and how much must be done in each: no window is overfull exactly when some schedule keeps the guarantees.
-use Rattle.std.specs.Prelude.{ℕ, ◌+◌, ◌≤◌, max, Bool, if◌then◌else◌, ◌&&◌, ◌↔◌, List, ◌∷◌, Decides, sum_by, nat_le}
+use Rattle.std.specs.Prelude.{ℕ, ◌+◌, ◌≤◌, max, Bool, if◌then◌else◌, ◌&&◌, ◌↔◌, List, ◌∷◌, IsTrue, sum_by, nat_le}
 use Rattle.schedule.specs.declared.job.Job.{Job}
 use Rattle.schedule.specs.Schedules.{Commitments, WellFormed, CanBeKept, CanBeServed}
 
@@ -33,4 +33,4 @@ with_job c j = record { clock = c.clock; horizon = c.horizon; jobs = j ∷ c.job
 
 -- The answer to an order is exact: where the guarantees can be kept it is yes exactly when the order can be served as well.
 abbrev pub VerdictExact : Commitments → Job → Bool → Type 0
-VerdictExact c order answer = WellFormed (with_job c order) → CanBeKept c → Decides answer (CanBeServed c order)
+VerdictExact c order answer = WellFormed (with_job c order) → CanBeKept c → IsTrue answer ↔ CanBeServed c order

@@ -2,7 +2,7 @@ use Rattle.std.proofs.Common.{length, ap, rules}
 use Rattle.std.proofs.lemmas.List.Sorted.{answers_always}
 use Rattle.capacity.specs.Intervals.{boundary_at}
 use Rattle.capacity.proofs.Searching.{found}
-use Rattle.plain_book.proofs.plain.PlainBook.find.Goals as goal
+use Rattle.plain_book.proofs.plain.PlainBook.place.Goals as goal
 
 -- the closure gives a boundary's end, and the slice is the book's boundaries
 pub returns : goal.returns

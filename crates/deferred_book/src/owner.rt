@@ -1,4 +1,4 @@
-//! Passing a slot: who it can be for.
+//! Who a slot can be for.
 ghost use Rattle.std.specs.Prelude.{◌≡◌};
 ghost use Rattle.capacity.specs.Intervals.{boundary_at};
 ghost use Rattle.capacity.specs.Places.{Owing};
