@@ -7,7 +7,7 @@ pub record Interval : Type 0 where
   pub end : ℕ
   pub spare : ℤ
 
--- No interval ends behind a longest horizon, and every spare is small.
+-- The interval ends no later than the longest horizon, and its spare is small.
 pub record IsWithinHorizon (end : ℕ) (spare : ℤ) : Type 0 where
   pub early : end ≤ longest_horizon
   pub small : Small spare

@@ -1,4 +1,5 @@
--- Numbers of at most a longest horizon, above and below nought. Spares are, so that no sum of two runs over.
+-- Numbers of at most a longest horizon, above and below nought. Every spare is such a number, so that the difference of two
+-- fits an i32.
 use Rattle.std.specs.Prelude.{ℤ, pos, ◌+ℤ◌, ◌≤ℤ◌}
 use Rattle.terms.specs.Limits.{longest_horizon}
 

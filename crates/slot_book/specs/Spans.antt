@@ -1,6 +1,6 @@
 -- Spares and demands determine each other. Intervals lie one behind the other: the first begins at s, each other one where
 -- the interval before it ends.
-use Rattle.std.specs.Prelude.{ℕ, cond, List, [], ◌∷◌, ℤ, pos, ◌+ℤ◌, ◌-ℤ◌, ◌==◌}
+use Rattle.std.specs.Prelude.{ℕ, if◌then◌else◌, List, [], ◌∷◌, ℤ, pos, ◌+ℤ◌, ◌-ℤ◌, ◌==◌}
 use Rattle.std.specs.Int.{int_min}
 use Rattle.capacity.specs.declared.boundary.Boundary.{Boundary}
 use Rattle.capacity.specs.Spare.{first_spare, positive_part}
@@ -28,4 +28,4 @@ dues_of s (x ∷ xs) = record { end = x.end; due = due_of s x xs } ∷ dues_of x
 -- The intervals without the first, if that ends at t.
 abbrev pub later_spans : ℕ → List Span → List Span
 later_spans t [] = []
-later_spans t (x ∷ xs) = cond (x.end == t) xs (x ∷ xs)
+later_spans t (x ∷ xs) = if x.end == t then xs else x ∷ xs

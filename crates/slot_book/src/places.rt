@@ -77,14 +77,14 @@ impl SlotBook {
             .ok_or(Refusal::NotHeld)
     }
 
-    // The headroom at a deadline behind the clock: what the intervals before it have free, and of its own what lies before it.
+    // The headroom at a deadline after the clock: what the intervals before it have free, and of its own what lies before it.
     pub(crate) fn room(&self, deadline: u32) -> u32
         requires { self.now.time.clock < deadline }
         ensures { result ≡ headroom (slot_meaning self.now) deadline }
     {
         let mut start = self.time.clock;
         let mut room = 0;
-        for span in self.spans.iter() {
+        for span in &self.spans {
             if deadline <= span.end {
                 return room + span.free_before(start, deadline);
             }

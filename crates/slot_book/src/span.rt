@@ -14,7 +14,7 @@ pub(crate) struct Span {
     pub(crate) spare: i32,
 }
 
-// Contracts see the same two numbers; their bounds stand here.
+// A model, so that definitions can write a record of the two numbers without a proof; their bounds stand here.
 impl Model for Span {
     ghost use Rattle.slot_book.specs.Interval.{Interval, IsWithinHorizon};
 
@@ -49,7 +49,7 @@ impl Span {
         self.spare.min(0).unsigned_abs()
     }
 
-    // The same interval, where it begins at a slot and so much of it is used.
+    // The interval with the spare that is left where it begins at a slot and so much of it is used.
     pub(crate) fn using(self, start: u32, used: u32) -> Span
         requires wide { start ≤ self.end }
         requires fits { used ≤ self.end }
@@ -71,8 +71,8 @@ impl Span {
         ((self.end - start) as i32 - self.spare) as u32
     }
 
-    // The parts before a slot inside and behind it. The first can spare what the whole could, and no more than its width; the
-    // second has to do without that width.
+    // Splits the interval at a slot inside. The part before it can spare what the whole could, and no more than its width; the part
+    // after it has to do without that width.
     pub(crate) fn split_at(self, start: u32, at: u32) -> (Span, Span)
         requires inside { (start ≤ at) × (at ≤ self.end) }
         requires small { Small (self.spare -ℤ (pos at -ℤ pos start)) }

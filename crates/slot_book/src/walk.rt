@@ -5,7 +5,8 @@ ghost use Rattle.slot_book.specs.Carry.{carried, Rose, AllSmall};
 use crate::span::Span;
 
 // Changes the spare at a place and carries the change back, from interval to interval, until one hands nothing on. A raise by one
-// stops behind the first spare that was not negative before. Answers the place where carrying ended.
+// stops at the first spare, on the way back, that was not negative before; that one rises too. Answers the place where carrying
+// ended.
 pub(crate) fn carry(spans: &mut [Span], from: usize, mut change: i32) -> usize
     requires within { from < length spans.old }
     requires spares { AllSmall (carried spans.old from change) }
