@@ -6,7 +6,7 @@ ghost use Rattle.capacity.specs.Calls.{to_come, with_boundary, with_boundaries, 
 ghost use Rattle.capacity.specs.Intervals.{boundary_at};
 ghost use Rattle.capacity.specs.Places.{Lacks};
 ghost use Rattle.capacity.specs.Spare.{headroom};
-ghost use Rattle.slot_book.specs.Due.{with_due_at};
+ghost use Rattle.slot_book.specs.Due.{due_there, owing_there};
 ghost use Rattle.slot_book.specs.Slot.{slot_meaning, slot_boundaries};
 ghost use Rattle.slot_book.specs.Spans.{later_spans};
 
@@ -21,7 +21,9 @@ impl SlotBook {
         requires new { Lacks (slot_boundaries self.old) deadline place }
         requires coming { to_come (slot_meaning self.old) deadline ≡ true }
         requires few { vec_len self.old.spans < most_boundaries }
-        ensures { slot_meaning self.new ≡ with_boundaries (slot_meaning self.old) (with_boundary (slot_boundaries self.old) deadline) }
+        ensures { slot_meaning self.new
+            ≡ with_boundaries (slot_meaning self.old)
+            (with_boundary (slot_boundaries self.old) deadline) }
     {
         let start = self.start(place);
         let (left, right) = self.spans[place].split_at(start, deadline);
@@ -32,9 +34,11 @@ impl SlotBook {
     // So much more is due at the boundary at a place.
     pub(crate) fn owe_at(&mut self, place: usize, demand: u32)
         requires within { place < length (slot_boundaries self.old) }
-        requires fits { demand ≤ headroom (slot_meaning self.old) (boundary_at (slot_boundaries self.old) place).end }
-        ensures { slot_meaning self.new ≡ with_boundaries (slot_meaning self.old)
-            (with_due_at (slot_boundaries self.old) place ((boundary_at (slot_boundaries self.old) place).due + demand)) }
+        requires fits { demand
+            ≤ headroom (slot_meaning self.old) (boundary_at (slot_boundaries self.old) place).end }
+        ensures { slot_meaning self.new
+            ≡ owing_there (slot_meaning self.old) place
+            (due_there (slot_meaning self.old) place + demand) }
     {
         carry(&mut self.spans, place, -(demand as i32));
     }
@@ -42,9 +46,10 @@ impl SlotBook {
     // So much less is due at the boundary at a place.
     pub(crate) fn forgive_at(&mut self, place: usize, demand: u32)
         requires within { place < length (slot_boundaries self.old) }
-        requires owed { demand ≤ (boundary_at (slot_boundaries self.old) place).due }
-        ensures { slot_meaning self.new ≡ with_boundaries (slot_meaning self.old)
-            (with_due_at (slot_boundaries self.old) place ((boundary_at (slot_boundaries self.old) place).due - demand)) }
+        requires owed { demand ≤ due_there (slot_meaning self.old) place }
+        ensures { slot_meaning self.new
+            ≡ owing_there (slot_meaning self.old) place
+            (due_there (slot_meaning self.old) place - demand) }
     {
         carry(&mut self.spans, place, demand as i32);
     }
@@ -62,9 +67,9 @@ impl SlotBook {
 
     // Lets a slot pass for the first boundary: what it costs and what it serves cancel out, so no record is touched.
     pub(crate) fn pass_for_first(&mut self)
-        requires { 1 ≤ (boundary_at (slot_boundaries self.old) 0).due }
-        ensures { slot_meaning self.new ≡ passed (with_boundaries (slot_meaning self.old)
-            (with_due_at (slot_boundaries self.old) 0 ((boundary_at (slot_boundaries self.old) 0).due - 1))) None }
+        requires { 1 ≤ due_there (slot_meaning self.old) 0 }
+        ensures { slot_meaning self.new
+            ≡ passed (owing_there (slot_meaning self.old) 0 (due_there (slot_meaning self.old) 0 - 1)) None }
     {
         self.time.clock += 1;
         drop_ended(&mut self.spans, self.time.clock);

@@ -1,10 +1,11 @@
 //! Finding places in the slot-by-slot book, and working demands out from neighbouring spares.
 ghost use Rattle.std.specs.Prelude.{◌≡◌, ◌<◌, ◌≤◌, length, drop, vec_len};
-ghost use Rattle.capacity.specs.Intervals.{start_at, boundary_at};
+ghost use Rattle.capacity.specs.Intervals.{start_at};
 ghost use Rattle.capacity.specs.Noted.{first_end};
 ghost use Rattle.capacity.specs.Places.{Found, Owing};
 ghost use Rattle.capacity.specs.Shortage.{short};
 ghost use Rattle.capacity.specs.Spare.{headroom};
+ghost use Rattle.slot_book.specs.Due.{due_there};
 ghost use Rattle.slot_book.specs.Slot.{slot_meaning, slot_boundaries};
 
 use crate::SlotBook;
@@ -44,7 +45,9 @@ impl SlotBook {
 
     // What the intervals from a place on take from before it; nothing behind the last.
     pub(crate) fn lacking(&self, place: usize) -> u32
-        ensures { result ≡ short (start_at self.now.time.clock (slot_boundaries self.now) place) (drop place (slot_boundaries self.now)) }
+        ensures { result
+            ≡ short (start_at self.now.time.clock (slot_boundaries self.now) place)
+            (drop place (slot_boundaries self.now)) }
     {
         self.spans.get(place).map_or(0, |span| span.lacking())
     }
@@ -58,7 +61,7 @@ impl SlotBook {
 
     /// What is due at the boundary at a place, worked out from neighbouring spares; nothing where there is none.
     pub fn due(&self, place: usize) -> u32
-        ensures { result ≡ (boundary_at (slot_meaning self.now).boundaries place).due }
+        ensures { result ≡ due_there (slot_meaning self.now) place }
     {
         if place >= self.spans.len() {
             return 0;
