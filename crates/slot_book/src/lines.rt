@@ -50,12 +50,11 @@ impl Book for SlotBook {
     }
 
     fn owe(&mut self, deadline: u32, demand: u32) -> Result<(), Refusal> {
-        let Ok(place) = self.place(deadline) else {
-            return Err(Refusal::Unfit);
-        };
-        if demand < 1 {
-            return Err(Refusal::Unfit);
-        }
+        let place = self
+            .place(deadline)
+            .ok()
+            .filter(|_| demand >= 1)
+            .ok_or(Refusal::Unfit)?;
         if demand > self.room(deadline) {
             return Err(Refusal::NoCapacity);
         }
