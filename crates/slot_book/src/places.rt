@@ -54,7 +54,8 @@ impl SlotBook {
 
     /// Where the first interval ends; the clock where none is left.
     pub fn first_end(&self) -> u32
-        ensures { result ≡ first_end (slot_meaning self.now).clock (slot_meaning self.now).boundaries }
+        ensures { result
+            ≡ first_end (slot_meaning self.now).clock (slot_meaning self.now).boundaries }
     {
         self.spans.first().map_or(self.time.clock, |span| span.end)
     }
@@ -63,11 +64,10 @@ impl SlotBook {
     pub fn due(&self, place: usize) -> u32
         ensures { result ≡ due_there (slot_meaning self.now) place }
     {
-        if place >= self.spans.len() {
+        let Some(span) = self.spans.get(place) else {
             return 0;
-        }
-        let start = self.start(place);
-        self.spans[place].used(start) - self.lacking(place + 1)
+        };
+        span.used(self.start(place)) - self.lacking(place + 1)
     }
 
     // The place of a boundary with at least so much due. Refused 6 where there is none.

@@ -16,7 +16,8 @@ impl SlotBook {
     /// the first interval.
     pub fn catch_up(&mut self, slots: u32, served: &[u32]) -> Result<(), Refusal>
         ensures answer { said result ≡ catch_up_says (slot_meaning self.old) slots }
-        ensures book { slot_meaning self.new ≡ catch_up_leaves (slot_meaning self.old) slots served.now }
+        ensures book { slot_meaning self.new
+            ≡ catch_up_leaves (slot_meaning self.old) slots served.now }
     {
         if slots > self.first_end() - self.time.clock {
             return Err(Refusal::Unfit);
