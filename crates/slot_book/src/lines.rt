@@ -13,10 +13,7 @@ impl NewBook for SlotBook {
         let mut spans = Vec::with_capacity(heap, MAX_BOUNDARIES)?;
         spans.push_reserved(Span { end: 1, spare: 1 });
         Ok(SlotBook {
-            time: Timeline {
-                clock: 0,
-                horizon: 1,
-            },
+            time: Timeline::default(),
             spans,
         })
     }
@@ -36,9 +33,7 @@ impl Book for SlotBook {
     }
 
     fn cut(&mut self, deadline: u32) -> Result<(), Refusal> {
-        if !self.time.is_to_come(deadline) {
-            return Err(Refusal::Unfit);
-        }
+        self.time.admit(deadline)?;
         let Err(place) = self.place(deadline) else {
             return Ok(());
         };
@@ -92,9 +87,7 @@ impl Book for SlotBook {
     }
 
     fn headroom(&mut self, deadline: u32) -> Result<u32, Refusal> {
-        if !self.time.is_to_come(deadline) {
-            return Err(Refusal::Unfit);
-        }
+        self.time.admit(deadline)?;
         Ok(self.room(deadline))
     }
 }
