@@ -6,13 +6,12 @@ mod agreement;
 mod rows;
 mod worked;
 
-use agreement::closing_line;
+use agreement::Accounts;
 use capacity::NewBook;
 use deferred_book::DeferredBook;
 use plain_book::PlainBook;
 use slot_book::SlotBook;
 use std::alloc::Global;
-use std::io;
 use worked::Account;
 
 fn main(rt: HostRuntime) -> anyhow::Result<()> {
@@ -21,23 +20,16 @@ fn main(rt: HostRuntime) -> anyhow::Result<()> {
 
 // Works the account out over each book, and prints the three.
 fn run(rt: &impl Print, heap: Global) -> anyhow::Result<()> {
-    let plain = account_over::<PlainBook>(heap)?;
-    let slot = account_over::<SlotBook>(heap)?;
-    let deferred = account_over::<DeferredBook>(heap)?;
-    print_accounts(rt, &plain, &slot, &deferred)?;
+    let accounts = Accounts {
+        plain: account_over::<PlainBook>(heap)?,
+        slot: account_over::<SlotBook>(heap)?,
+        deferred: account_over::<DeferredBook>(heap)?,
+    };
+    accounts.print(rt)?;
     Ok(())
 }
 
 // The account of the worked example over a new book.
 fn account_over<B: NewBook + Drop>(heap: Global) -> anyhow::Result<String> {
     Ok(Account::of(heap, B::new(heap)?)?.text)
-}
-
-// Each account under the name of its book, and the line that compares them.
-fn print_accounts(rt: &impl Print, plain: &str, slot: &str, deferred: &str) -> io::Result<()> {
-    println!(rt; "Account of the worked example\n")?;
-    println!(rt; "Plain book\n{plain}")?;
-    println!(rt; "Slot-by-slot book\n{slot}")?;
-    println!(rt; "Deferred book\n{deferred}")?;
-    println!(rt; "{}", closing_line(plain, slot, deferred))
 }

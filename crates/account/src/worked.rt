@@ -36,7 +36,7 @@ const OWNERS: [Option<u32>; 4] = [Some(12), Some(12), Some(12), None];
 #[derive(Drop)]
 pub(crate) struct Account<B> {
     pub(crate) text: String,
-    book: B,
+    pub(crate) book: B,
 }
 
 impl<B: Book + Drop> Account<B> {
@@ -93,7 +93,8 @@ impl<B: Book + Drop> Account<B> {
 
     // The verdicts on two further demands. The first is taken back, so that the book is as it was.
     fn write_orders(&mut self) -> anyhow::Result<()>
-        ensures { OnOk result (B.Book.meaning self.new.book ≡ orders_leave (B.Book.meaning self.old.book)) }
+        ensures { OnOk result
+            (B.Book.meaning self.new.book ≡ orders_leave (B.Book.meaning self.old.book)) }
     {
         writeln!(self.text, "\nOrders")?;
         self.write_verdict(DEADLINE, FIRST_ORDER)?;
@@ -106,7 +107,8 @@ impl<B: Book + Drop> Account<B> {
     // The verdict on a demand that is owed beside what is due already.
     fn write_verdict(&mut self, deadline: u32, demand: u32) -> anyhow::Result<()>
         ensures { OnOk result
-            (B.Book.meaning self.new.book ≡ owe_leaves (B.Book.meaning self.old.book) deadline demand) }
+            (B.Book.meaning self.new.book
+            ≡ owe_leaves (B.Book.meaning self.old.book) deadline demand) }
     {
         let fit = if fits(&mut self.book, deadline, demand)? {
             "fits"
@@ -123,7 +125,8 @@ impl<B: Book + Drop> Account<B> {
 
     // Lets a slot pass for each owner in turn. The first refusal ends it.
     fn write_slots(&mut self, owners: &[Option<u32>]) -> anyhow::Result<()>
-        ensures { OnOk result (B.Book.meaning self.new.book ≡ ran (B.Book.meaning self.old.book) owners.now) }
+        ensures { OnOk result
+            (B.Book.meaning self.new.book ≡ ran (B.Book.meaning self.old.book) owners.now) }
     {
         writeln!(self.text, "\nSlots")?;
         for &owner in owners {

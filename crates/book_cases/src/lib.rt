@@ -1,4 +1,5 @@
-//! Tables of cases that every book must pass: each refusal with its number, at its edges, and that it changes nothing.
+//! Tables of cases that every book must pass: each refusal at its edges, and that it changes nothing; the refusals' numbers stand in a
+//! table of their own.
 #![tactic(auto)]
 
 #[cfg(test)]
