@@ -25,7 +25,7 @@ use Rattle.capacity.proofs.Places.{stands, ends_rise, place_inside, start_before
 use Rattle.capacity.proofs.Slots.{boundary_within}
 use Rattle.capacity.proofs.Suffixes.{placed_at}
 use Rattle.slot_book.specs.Carry.{AllSmall, carried, span_at, with_more}
-use Rattle.slot_book.specs.Due.{with_due_at}
+use Rattle.slot_book.specs.Due.{with_due_at, due_there, owing_there}
 use Rattle.slot_book.specs.Mend.{Mendable}
 use Rattle.slot_book.specs.Slot.{slot_meaning, slot_boundaries}
 use Rattle.slot_book.specs.Spans.{spans_of, dues_of, later_spans}
@@ -89,7 +89,7 @@ due_changed :
     z +ℤ pos c ≡ pos (boundary_at (slot_boundaries b) k).due →
     short b.time.clock (with_due_at (slot_boundaries b) k c) ≤ b.time.clock →
     ys ≡ carried (vec_items b.spans) k z →
-    Tells b.time.clock b.time.horizon ys (with_boundaries (slot_meaning b) (with_due_at (slot_boundaries b) k c))
+    Tells b.time.clock b.time.horizon ys (owing_there (slot_meaning b) k c)
 due_changed b k c z ys within law bounded is =
     let bs = slot_boundaries b in
     let at = stands_at b k within in
@@ -103,8 +103,7 @@ pub forgiven :
     (b : SlotBook) (k c : ℕ) (ys : List Span) → k < length (slot_boundaries b) →
     c ≤ (boundary_at (slot_boundaries b) k).due →
     ys ≡ carried (vec_items b.spans) k (pos c) →
-    Tells b.time.clock b.time.horizon ys
-    (with_boundaries (slot_meaning b) (with_due_at (slot_boundaries b) k ((boundary_at (slot_boundaries b) k).due - c)))
+    Tells b.time.clock b.time.horizon ys (owing_there (slot_meaning b) k (due_there (slot_meaning b) k - c))
 forgiven b k c ys within le is =
     let bs = slot_boundaries b in
     let at = stands_at b k within in
@@ -117,8 +116,7 @@ pub owed :
     (b : SlotBook) (k c : ℕ) (ys : List Span) → k < length (slot_boundaries b) →
     c ≤ headroom (slot_meaning b) (boundary_at (slot_boundaries b) k).end →
     ys ≡ carried (vec_items b.spans) k (pos 0 -ℤ pos c) →
-    Tells b.time.clock b.time.horizon ys
-    (with_boundaries (slot_meaning b) (with_due_at (slot_boundaries b) k ((boundary_at (slot_boundaries b) k).due + c)))
+    Tells b.time.clock b.time.horizon ys (owing_there (slot_meaning b) k (due_there (slot_meaning b) k + c))
 owed b k c ys within fits is =
     let bs = slot_boundaries b in
     let d = (boundary_at bs k).end in
@@ -309,7 +307,7 @@ pub passes_first :
     (b : SlotBook) (ys : List Span) → 1 ≤ (boundary_at (slot_boundaries b) 0).due →
     ys ≡ later_spans (b.time.clock + 1) (vec_items b.spans) →
     Tells (b.time.clock + 1) b.time.horizon ys
-    (passed (with_boundaries (slot_meaning b) (with_due_at (slot_boundaries b) 0 ((boundary_at (slot_boundaries b) 0).due - 1))) None)
+    (passed (owing_there (slot_meaning b) 0 (due_there (slot_meaning b) 0 - 1)) None)
 passes_first b ys due is =
     let bs = slot_boundaries b in
     let xs = vec_items b.spans in

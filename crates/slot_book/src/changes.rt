@@ -70,7 +70,7 @@ impl SlotBook {
         requires { 1 ≤ due_there (slot_meaning self.old) 0 }
         ensures { slot_meaning self.new
             ≡ passed (owing_there (slot_meaning self.old) 0
-              (due_there (slot_meaning self.old) 0 - 1)) None }
+            (due_there (slot_meaning self.old) 0 - 1)) None }
     {
         self.time.clock += 1;
         drop_ended(&mut self.spans, self.time.clock);

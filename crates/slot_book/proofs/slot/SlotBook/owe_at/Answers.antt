@@ -1,9 +1,7 @@
 use Rattle.std.proofs.Common.{◌<◌, ◌≤◌, refl, ◌+◌, length, vec_items, arith, rules}
 use Rattle.std.specs.Vec.{with_items}
-use Rattle.capacity.specs.Calls.{with_boundaries}
-use Rattle.capacity.specs.Intervals.{boundary_at}
-use Rattle.slot_book.specs.Due.{with_due_at}
-use Rattle.slot_book.specs.Slot.{slot_meaning, slot_boundaries}
+use Rattle.slot_book.specs.Due.{due_there, owing_there}
+use Rattle.slot_book.specs.Slot.{slot_meaning}
 use Rattle.slot_book.proofs.Books.{length_dues}
 use Rattle.slot_book.proofs.Fits.{loss_is}
 use Rattle.slot_book.proofs.Writes.{Tells, tells_small, carried_items, owed, room_small}
@@ -35,8 +33,7 @@ carry-requires c =
 told :
     (c : After-carry) →
     Tells c.args.self.now.time.clock c.args.self.now.time.horizon (with_items c.args.self.now.spans c.carry.new.spans).items
-    (with_boundaries (slot_meaning c.args.self.now)
-    (with_due_at (slot_boundaries c.args.self.now) c.args.place ((boundary_at (slot_boundaries c.args.self.now) c.args.place).due + c.args.demand)))
+    (owing_there (slot_meaning c.args.self.now) c.args.place (due_there (slot_meaning c.args.self.now) c.args.place + c.args.demand))
 told c =
     owed c.args.self.now _ _ _ c.requires.within c.requires.fits
     (carried_items c.args.self.now.spans _ _ _ _ _ (search rules) c.carry.ensures.after
