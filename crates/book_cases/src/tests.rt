@@ -98,7 +98,7 @@ const REFUSED: [(Call, Answer); 26] = [
     (Call::Headroom(12), Ok(Some(3))),
 ];
 
-// Three slots for 12 and one for nobody, and then the edges at the new clock.
+// Three slots for 12 and one for nobody, then every spare, and then the edges at the new clock.
 const SLOTS: [(Call, Answer); 12] = [
     (Call::Run(Some(12)), Ok(None)),
     (Call::Run(Some(12)), Ok(None)),
@@ -113,6 +113,9 @@ const SLOTS: [(Call, Answer); 12] = [
     (Call::Cut(4), Err(Unfit)),
     (Call::Cut(5), Ok(None)),
 ];
+
+// The rows of that table up to the last spare: the slots in one go, and only then the spares.
+const ASKED: usize = 8;
 
 // A boundary goes with what is still due there, nothing is due at the next one, and at the horizon no boundary is left.
 const HORIZON: [(Call, Answer); 16] = [
@@ -153,18 +156,6 @@ const FULL: [(Call, Answer); 4] = [
     (Call::Owe(127, 1), Ok(None)),
 ];
 
-// The slots of the worked example in one go, and only then the spares.
-const LATE: [(Call, Answer); 8] = [
-    (Call::Run(Some(12)), Ok(None)),
-    (Call::Run(Some(12)), Ok(None)),
-    (Call::Run(Some(12)), Ok(None)),
-    (Call::Run(None), Ok(None)),
-    (Call::Spare(1), Ok(Some(0))),
-    (Call::Spare(2), Ok(Some(1))),
-    (Call::Spare(3), Ok(Some(1))),
-    (Call::Spare(4), Ok(Some(0))),
-];
-
 // The first interval ends before anyone asks. At slot 7, 0, 1 and 2 are left at 8, 10 and 12: the spares are 1, 1 and 0.
 const ENDED: [(Call, Answer); 12] = [
     (Call::Run(Some(12)), Ok(None)),
@@ -184,7 +175,7 @@ const ENDED: [(Call, Answer); 12] = [
 // The tables in which slots pass unseen, each after the worked example.
 fn play_unseen<B: Book>(rt: &impl Abort, book: &mut B) {
     play_blind(rt, book, &WORKED);
-    play_blind(rt, book, &LATE);
+    play_blind(rt, book, &SLOTS[..ASKED]);
     play_blind(rt, book, &WORKED);
     play_blind(rt, book, &ENDED);
 }
