@@ -1,5 +1,7 @@
 //! The deferred book shows every line of a book. A run notes its slot, unless that ends the first interval; then, and in any other
 //! call that looks at what is due, the book settles first and leaves the rest to the slot-by-slot book.
+ghost use Rattle.std.specs.Prelude.{◌≡◌, IfOk};
+ghost use Rattle.capacity.specs.Calls.{cleared};
 ghost use Rattle.deferred_book.specs.Deferred.{deferred_meaning};
 
 use crate::DeferredBook;
@@ -9,12 +11,21 @@ use slot_book::SlotBook;
 use std::alloc::{AllocError, Global};
 use terms::Refusal;
 
-impl NewBook for DeferredBook {
-    fn new(heap: Global) -> Result<Self, AllocError> {
+impl DeferredBook {
+    /// A book cleared to the shortest horizon, with room for every boundary that it may come to hold. No other call takes memory.
+    pub fn new(heap: Global) -> Result<DeferredBook, AllocError>
+        ensures { IfOk result (λ b. deferred_meaning b ≡ cleared 1) }
+    {
         Ok(DeferredBook {
             settled: SlotBook::new(heap)?,
             notes: Notes::none(),
         })
+    }
+}
+
+impl NewBook for DeferredBook {
+    fn new(heap: Global) -> Result<Self, AllocError> {
+        DeferredBook::new(heap)
     }
 }
 
@@ -43,12 +54,15 @@ impl Book for DeferredBook {
     }
 
     fn run(&mut self, owner: Option<u32>) -> Result<(), Refusal> {
-        // The slot that ends the first interval is the settled book's own, and so is the answer at the horizon.
+        let place = owner.map(|deadline| self.owner(deadline)).transpose()?;
+        if self.clock() == self.settled.horizon() {
+            return Err(Refusal::AtHorizon);
+        }
+        // The slot that ends the first interval is the settled book's own.
         if self.clock() + 1 >= self.settled.first_end() {
             self.settle();
             return self.settled.run(owner);
         }
-        let place = owner.map(|deadline| self.owner(deadline)).transpose()?;
         self.notes.note(place);
         Ok(())
     }

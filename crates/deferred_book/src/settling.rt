@@ -7,18 +7,20 @@ ghost use Rattle.deferred_book.specs.Noting.{Unnoted};
 use crate::DeferredBook;
 use crate::notes::Notes;
 use crate::noting::FIRST;
-use std::mem;
 
 impl DeferredBook {
     // Settles the book, which means the same as before.
+    #[tactic(auto, using(crate::proofs::Keeping::settling_keeps_the_meaning))]
     pub(crate) fn settle(&mut self)
         ensures same { deferred_meaning self.new ≡ deferred_meaning self.old }
         ensures settled { slot_meaning self.new.settled ≡ deferred_meaning self.old }
         ensures notes { Unnoted self.new.notes }
     {
-        let Notes { slots, mut noted } = mem::replace(&mut self.notes, Notes::none());
         // From here on each note is what its boundary got, the first one too.
-        noted[FIRST] = slots - noted[FIRST];
-        self.settled.catch_up(slots, &noted).unwrap();
+        self.notes.noted[FIRST] = self.notes.slots - self.notes.noted[FIRST];
+        self.settled
+            .catch_up(self.notes.slots, &self.notes.noted)
+            .unwrap();
+        self.notes = Notes::none();
     }
 }

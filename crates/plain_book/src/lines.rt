@@ -1,6 +1,6 @@
 //! The plain book shows every line of a book. Each call looks before it writes, so that a refusal changes nothing.
-ghost use Rattle.std.specs.Prelude.{◌≡◌, None};
-ghost use Rattle.capacity.specs.Calls.{run_says, run_leaves};
+ghost use Rattle.std.specs.Prelude.{◌≡◌, IfOk, None};
+ghost use Rattle.capacity.specs.Calls.{cleared, run_says, run_leaves};
 ghost use Rattle.terms.specs.Answers.{said};
 ghost use Rattle.plain_book.specs.Plain.{plain_meaning};
 
@@ -10,8 +10,11 @@ use std::alloc::{AllocError, Global};
 use terms::Refusal;
 use terms::limits::MAX_BOUNDARIES;
 
-impl NewBook for PlainBook {
-    fn new(heap: Global) -> Result<Self, AllocError> {
+impl PlainBook {
+    /// A book cleared to the shortest horizon, with room for every boundary that it may come to hold. No other call takes memory.
+    pub fn new(heap: Global) -> Result<PlainBook, AllocError>
+        ensures { IfOk result (λ b. plain_meaning b ≡ cleared 1) }
+    {
         let mut boundaries = Vec::with_capacity(heap, MAX_BOUNDARIES)?;
         boundaries.push_reserved(Boundary { end: 1, due: 0 });
         Ok(PlainBook {
@@ -19,9 +22,7 @@ impl NewBook for PlainBook {
             boundaries,
         })
     }
-}
 
-impl PlainBook {
     // Lets a slot pass for nobody: the clock rises, and a boundary that it reaches goes.
     fn pass(&mut self) -> Result<(), Refusal>
         ensures answer { said result ≡ run_says (plain_meaning self.old) None }
@@ -32,6 +33,12 @@ impl PlainBook {
             self.boundaries.remove(0);
         }
         Ok(())
+    }
+}
+
+impl NewBook for PlainBook {
+    fn new(heap: Global) -> Result<Self, AllocError> {
+        PlainBook::new(heap)
     }
 }
 

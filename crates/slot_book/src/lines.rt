@@ -1,4 +1,6 @@
 //! The slot-by-slot book shows every line of a book. Each call looks before it writes, so that a refusal changes nothing.
+ghost use Rattle.std.specs.Prelude.{◌≡◌, IfOk};
+ghost use Rattle.capacity.specs.Calls.{cleared};
 ghost use Rattle.slot_book.specs.Slot.{slot_meaning};
 
 use crate::SlotBook;
@@ -8,14 +10,23 @@ use std::alloc::{AllocError, Global};
 use terms::Refusal;
 use terms::limits::MAX_BOUNDARIES;
 
-impl NewBook for SlotBook {
-    fn new(heap: Global) -> Result<Self, AllocError> {
+impl SlotBook {
+    /// A book cleared to the shortest horizon, with room for every interval that it may come to hold. No other call takes memory.
+    pub fn new(heap: Global) -> Result<SlotBook, AllocError>
+        ensures { IfOk result (λ b. slot_meaning b ≡ cleared 1) }
+    {
         let mut spans = Vec::with_capacity(heap, MAX_BOUNDARIES)?;
         spans.push_reserved(Span { end: 1, spare: 1 });
         Ok(SlotBook {
             time: Timeline::default(),
             spans,
         })
+    }
+}
+
+impl NewBook for SlotBook {
+    fn new(heap: Global) -> Result<Self, AllocError> {
+        SlotBook::new(heap)
     }
 }
 

@@ -19,7 +19,7 @@ pub struct SlotBook {
     // The boundaries rise from the clock to the horizon.
     ghost ordered: { rises time.clock (dues_of time.clock spans.items) time.horizon ≡ true },
     // They take no more from before the clock than the slots that have passed, so no spare lies further below nought than the
-    // clock.
+    // slot where its interval begins. This bounds every number that is formed.
     ghost bounded: { short time.clock (dues_of time.clock spans.items) ≤ time.clock },
     ghost few: { vec_len spans ≤ most_boundaries },
     ghost room: { most_boundaries ≤ vec_capacity spans },

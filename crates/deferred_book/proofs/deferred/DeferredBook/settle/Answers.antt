@@ -6,5 +6,5 @@ use Rattle.deferred_book.proofs.deferred.DeferredBook.settle.Goals as goal
 pub unwrap-requires : goal.unwrap-requires
 unwrap-requires c =
     let book = c.args.self.now in
-    catches_up (slot_meaning book.settled) c.replace-slots.result.slots c.catch_up.result (book_ordered book.settled)
-    (rw c.replace-slots.ensures.value book.within) c.catch_up.ensures.answer
+    catches_up (slot_meaning book.settled) book.notes.slots c.catch_up.result (book_ordered book.settled) book.within
+    c.catch_up.ensures.answer
