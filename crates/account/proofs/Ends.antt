@@ -12,11 +12,16 @@ orders_undone : orders_leave worked ≡ worked
 orders_undone = refl
 
 pub day_ends :
-    (m : Meaning) →
-    m
+    (entered asked ordered passed printed : Meaning) →
+    entered
     ≡ filled (cleared 12)
     (record { end = 6; due = 2 } ∷ record { end = 8; due = 1 } ∷ record { end = 10; due = 1 } ∷ record { end = 12; due = 5 } ∷ []) →
-    ran (orders_leave m) (Some 12 ∷ Some 12 ∷ Some 12 ∷ None ∷ []) ≡ day_end
+    asked ≡ entered →
+    ordered ≡ orders_leave asked →
+    passed ≡ ran ordered (Some 12 ∷ Some 12 ∷ Some 12 ∷ None ∷ []) →
+    printed ≡ passed →
+    printed ≡ day_end
 unfolding day_end
-day_ends m fills =
-    ap (λ m. ran m (Some 12 ∷ Some 12 ∷ Some 12 ∷ None ∷ [])) (ap orders_leave fills ∙ orders_undone)
+day_ends entered asked ordered passed printed fills asks orders runs prints =
+    let full : ordered ≡ worked = orders ∙ ap orders_leave (asks ∙ fills) ∙ orders_undone in
+    prints ∙ runs ∙ ap (λ m. ran m (Some 12 ∷ Some 12 ∷ Some 12 ∷ None ∷ [])) full

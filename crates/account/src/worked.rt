@@ -42,7 +42,6 @@ pub(crate) struct Account<B> {
 impl<B: Book + Drop> Account<B> {
     // Fills a book with the worked example and writes its account, with an empty line before each part. A refusal, or want of memory,
     // ends it.
-    #[tactic(auto, using(crate::proofs::Ends::day_ends))]
     pub(crate) fn of(heap: Global, mut book: B) -> anyhow::Result<Account<B>>
         ensures { IfOk result (λ a. B.Book.meaning a.book ≡ day_end) }
     {
